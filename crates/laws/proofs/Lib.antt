@@ -1,0 +1,6 @@
+pub mod Tests
+pub mod Search
+pub mod OnePass
+pub mod Every
+pub mod Pigeonhole
+pub mod Bytes
