@@ -6,7 +6,7 @@ use mathlib.Core.List.{List, [], _∷_}
 use native.Mathlib.Nat.{pow-succ'}
 use native.Mathlib.Omega.{arith}
 use lib.ListN.{getD, take, drop, length}
-use lib.Seq.{drop-nil, take-nil}
+use lib.Seq.{drop-nil, take-nil, drop-drop}
 use Rattle.laws.specs.Bytes.{little, littleAt}
 
 -- every entry is a byte
@@ -51,3 +51,18 @@ pub littleAt-agree : (f g : List ℕ) (p k : ℕ) → Agree f g p k → littleAt
 littleAt-agree f g p zero h = rw (littleAt-zero f p, littleAt-zero g p) refl
 littleAt-agree f g p (suc k) h =
     rw (littleAt-suc f p k, littleAt-suc g p k, h p (omega arith) (omega arith), littleAt-agree f g (suc p) k (λ i a b. h i (omega arith) (omega arith)))
+
+-- four bytes, written out
+pub littleAt-four : (f : List ℕ) (p : ℕ)
+    → littleAt f p 4 ≡ getD f p 0 + 256 * getD f (p + 1) 0 + 65536 * getD f (p + 2) 0 + 16777216 * getD f (p + 3) 0
+littleAt-four f p =
+    let a : suc p ≡ p + 1 = omega arith in
+    let b : suc (p + 1) ≡ p + 2 = omega arith in
+    let c : suc (p + 2) ≡ p + 3 = omega arith in
+    rw (littleAt-suc f p 3, a, littleAt-suc f (p + 1) 2, b, littleAt-suc f (p + 2) 1, c, littleAt-suc f (p + 3) 0, littleAt-zero f (suc (p + 3)))
+    (omega arith)
+
+-- a place counted from a later start
+pub littleAt-drop : (f : List ℕ) (a p k : ℕ) → littleAt (drop a f) p k ≡ littleAt f (a + p) k
+unfolding littleAt
+littleAt-drop f a p k = rw (drop-drop p a f)

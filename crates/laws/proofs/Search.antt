@@ -1,12 +1,14 @@
 -- What `least`, `anyBelow` and `firstTrue` mean, each exactly.
 -- Assumes nothing.
 use mathlib.Core.Path.{_≡_, refl, sym, ap, _∙_}
-use mathlib.Core.Bool.{Bool, true, false, cond, true≢false}
+use mathlib.Core.Bool.{Bool, true, false, cond, not, _&&_, true≢false}
 use mathlib.Core.List.{List, [], _∷_, _++_}
 use Prim.Native.Nat.{ℕ, zero, suc, _+_, _<_, _≤_, zero-le, suc-le-suc}
 use native.Mathlib.Nat.{le-of-suc-le-suc, not-suc-le-zero, zero-add, suc-add}
 use native.Mathlib.Omega.{arith}
-use borrow.Author.Tests.{ltb-true, ltb-false, le-ltb}
+use borrow.Author.Count.{below-more}
+use borrow.Author.Tests.{ltb-true, ltb-false, le-ltb, eqb-true, eqb-false}
+use lib.Dec.{eqb}
 use lib.ListN.{length, getD}
 use Rattle.laws.specs.Search.{least, anyBelow, firstTrue}
 use Rattle.laws.proofs.Tests.{by-test}
@@ -44,6 +46,19 @@ least-is p (suc n) (suc r) s =
 -- where none of the numbers passes, `least` is n
 pub least-none : (p : ℕ → Bool) (n : ℕ) → ((k : ℕ) → k < n → p k ≡ false) → least p n ≡ n
 least-none p n f = least-is p n n (record { le = omega arith; holds = λ l. absurd (omega arith); fails = f })
+
+-- one number more: a search that found nothing among n looks at n
+pub least-more : (p : ℕ → Bool) (n : ℕ) → least p (n + 1) ≡ cond (eqb (least p n) n && not (p n)) (n + 1) (least p n)
+least-more p n =
+    let s = least-says p n in
+    by-test (eqb (least p n) n)
+    (λ e. let at = eqb-true (least p n) n e in
+    let none = rw at at (s .fails) in
+    by-test (p n)
+    (λ t. rw (e, t) (rw at (least-is p (n + 1) n (record { le = omega arith; holds = λ l. t; fails = none }))))
+    (λ t. rw (e, t) (least-none p (n + 1) (below-more _ n none t))))
+    (λ e. rw e (least-is p (n + 1) (least p n)
+    (record { le = omega (arith, s .le); holds = λ l. s .holds (omega (arith, s .le, eqb-false (least p n) n e)); fails = s .fails })))
 
 -- `least` looks at the numbers below n alone
 pub least-ext : (p q : ℕ → Bool) (n : ℕ) → ((k : ℕ) → k < n → p k ≡ q k) → least p n ≡ least q n

@@ -1,0 +1,4 @@
+pub mod Chunks
+pub mod Stages
+pub mod TwoChunks
+pub mod Verdicts
