@@ -5,6 +5,7 @@ use mathlib.Core.Path.{_≡_, refl, sym, ap, _∙_}
 use mathlib.Core.Bool.{Bool, true, false, cond, not, _&&_, _||_}
 use mathlib.Core.List.{List, [], _∷_}
 use native.Mathlib.Omega.{arith}
+use borrow.Author.Tests.{ltb-true, ltb-false}
 use lib.Dec.{eqb, ltb}
 use lib.ListN.{length, drop, getD}
 use lib.Seq.{getD-drop}
@@ -14,6 +15,10 @@ use Rattle.container.specs.Chunks.{Chunk, headerAt, startsWhole, chunksF
 use Rattle.container.specs.Rules.{chunkAt, count, isBin}
 use Rattle.container.proofs.Chunks.{chunks-none, whole-short, whole-within}
 use Rattle.container.proofs.Stages.{Stage, stage-first, stage-next, chunk-at, length-at, type-at}
+
+length-none : (cs : List Chunk) → length cs ≤ 0 → cs ≡ []
+length-none [] h = refl
+length-none (c ∷ cs) h = absurd (omega arith)
 
 -- where a stage is not at the end of a filled file, a whole chunk starts
 stage-whole : (f : List ℕ) (at n json bin : ℕ) → Stage f at n json bin → 12 + bytesOf (chunksOf f) ≡ length f → at < length f
@@ -29,6 +34,13 @@ module _ (f : List ℕ) (l : 20 ≤ length f) (filled : 12 + bytesOf (chunksOf f
 
   first-whole : startsWhole (drop 12 f) ≡ true
   first-whole = stage-whole f 12 0 0 0 first filled (omega arith)
+
+  -- so there is a chunk 0
+  pub chunks-some : 0 < count f
+  unfolding bytesOf
+  chunks-some =
+      by-test (ltb 0 (count f)) (λ t. ltb-true 0 (count f) t)
+      (λ t. absurd (omega (arith, filled, l, ap bytesOf (length-none (chunksOf f) (ltb-false 0 (count f) t)))))
 
   pub json-length : littleAt f 12 4 ≡ chunkAt f 0 .chunkLength
   json-length = length-at f 12 0 0 0 first first-whole ∙ ap (λ (c : Chunk). c .chunkLength) (sym (chunk-at f 12 0 0 0 first first-whole))

@@ -1,3 +1,5 @@
 pub mod Chunks
 pub mod Rules
 pub mod Found
+pub mod Meaning
+pub mod Exact
