@@ -1,0 +1,11 @@
+pub mod Tree
+pub mod Grammar
+pub mod Faults
+pub mod Scans
+pub mod Check
+pub mod Depth
+pub mod Strings
+pub mod Lengths
+pub mod Numbers
+pub mod Parse
+pub mod Answer

@@ -1,0 +1,11 @@
+-- Where a string ends, over any bytes. Assumes nothing: these are definitions.
+use Prim.Native.Nat.{ℕ, suc}
+use mathlib.Core.Bool.{Bool, true, false, cond}
+use mathlib.Core.List.{List, [], _∷_}
+use lib.Dec.{eqb}
+
+-- how many bytes stand before the mark that closes a string; all where none does. A backslash hides the next byte
+unfoldable pub toClose : Bool → List ℕ → ℕ
+toClose hidden [] = 0
+toClose true (b ∷ w) = suc (toClose false w)
+toClose false (b ∷ w) = cond (eqb b 0x22) 0 (suc (toClose (eqb b 0x5c) w))
