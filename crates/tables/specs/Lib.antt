@@ -1,0 +1,7 @@
+pub mod Records
+pub mod Elements
+pub mod Findings
+pub mod Views
+pub mod Accessors
+pub mod Fitness
+pub mod Places
