@@ -5,6 +5,7 @@ ghost use Rattle.json.specs.Depth.{depthOf};
 
 mod answer;
 mod bytes;
+pub mod nav;
 mod number;
 mod string;
 mod token;

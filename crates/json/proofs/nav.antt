@@ -1,0 +1,13 @@
+-- Laws of reading at places. `Navigation` has what the layers above cite.
+mod Steps
+mod Standing
+mod FirstBytes
+mod Spellings
+mod Numerals
+mod Elements
+mod Passes
+mod Searches
+mod Computed
+mod Located
+mod Tops
+pub mod Navigation

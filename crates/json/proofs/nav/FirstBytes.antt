@@ -1,0 +1,48 @@
+-- A value's kind, by its first byte, is its tree's.
+-- Assumes nothing.
+use Prim.Native.Nat.{ℕ, _≤_}
+use native.Mathlib.Omega.{arith}
+use mathlib.Core.Path.{_≡_, refl}
+use mathlib.Core.List.{List}
+use borrow.Author.Tests.{ne-eqb, le-leb}
+use Rattle.json.specs.declared.nav.Kind.the-variants.{Number}
+use Rattle.json.specs.Tree.{Json}
+use Rattle.json.specs.Grammar.{Value}
+use Rattle.json.specs.Grammar.Int.{int-zero, int-more}
+use Rattle.json.specs.Grammar.Magnitude.{magnitude}
+use Rattle.json.specs.Grammar.Number.{num-plain, num-minus}
+use Rattle.json.specs.Grammar.Scalar.{sc-null, sc-true, sc-false, sc-number, sc-string}
+use Rattle.json.specs.Grammar.Value.{val-scalar, val-array0, val-array, val-object0, val-object}
+use Rattle.json.specs.Answer.{first}
+use Rattle.json.specs.Kinds.{kindOf, treeKind}
+
+-- a digit starts a number
+digit-kind : (d : ℕ) → 0x31 ≤ d → d ≤ 0x39 → kindOf d ≡ Number
+unfolding kindOf
+digit-kind d a b =
+    rw (
+      ne-eqb d 0x7b (omega arith),
+      ne-eqb d 0x5b (omega arith),
+      ne-eqb d 0x22 (omega arith),
+      ne-eqb d 0x74 (omega arith),
+      ne-eqb d 0x66 (omega arith),
+      ne-eqb d 0x6e (omega arith),
+      ne-eqb d 0x2d (omega arith),
+      le-leb 0x30 d (omega arith),
+      le-leb d 0x39 b,
+    )
+
+-- the first byte decides the kind
+pub value-kind : {w a : List ℕ} {j : Json} → Value w j a → kindOf (first w) ≡ treeKind j
+unfolding kindOf treeKind
+value-kind (val-scalar (sc-null h)) = refl
+value-kind (val-scalar (sc-true h)) = refl
+value-kind (val-scalar (sc-false h)) = refl
+value-kind (val-scalar (sc-number (num-plain (magnitude int-zero f e)))) = refl
+value-kind (val-scalar (sc-number (num-plain (magnitude (int-more {d = d} g h) f e)))) = digit-kind d (g .0) (g .1)
+value-kind (val-scalar (sc-number (num-minus h))) = refl
+value-kind (val-scalar (sc-string h)) = refl
+value-kind (val-array0 x) = refl
+value-kind (val-array x h) = refl
+value-kind (val-object0 x) = refl
+value-kind (val-object x h) = refl
