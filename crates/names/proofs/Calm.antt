@@ -11,7 +11,8 @@ use Rattle.json.specs.Depth.Mode.{outside, inside, hidden}
 use Rattle.json.specs.Depth.Kind.{mark, slash, code}
 use Rattle.json.specs.Depth.Bracket.{opens, closes, neither}
 use Rattle.names.specs.declared.Escaped.the-variants.{Plain}
-use Rattle.names.specs.Strings.{toClose, slashed}
+use Rattle.json.specs.Strings.{toClose}
+use Rattle.names.specs.Strings.{slashed}
 use Rattle.names.specs.Order.{Names}
 use Rattle.names.specs.Names.{plan12, State, bracketed, outsideStep, step, run, answer, escapedBy, escapedOf}
 use Rattle.names.specs.Names.State.{going}

@@ -5,7 +5,8 @@ use mathlib.Core.Path.{_≡_, refl}
 use mathlib.Core.List.{List, [], _∷_}
 use Rattle.names.specs.declared.Search.the-variants.{Repeats, Full}
 use Rattle.names.specs.declared.Escaped.the-variants.{Holds}
-use Rattle.names.specs.Strings.{toClose, same, slashed}
+use Rattle.json.specs.Strings.{toClose}
+use Rattle.names.specs.Strings.{same, slashed}
 use Rattle.names.specs.Order.{has, pairs}
 use Rattle.names.specs.Names.{run, searchOf, escapedOf}
 

@@ -10,7 +10,7 @@ use Rattle.names.specs.declared.Search.the-variants.{Repeats}
 use Rattle.names.specs.Strings.{same}
 use Rattle.names.specs.Order.{has, pairs}
 use Rattle.names.specs.Names.{plan13, searchOf}
-use Rattle.names.proofs.Stacks.{upTo, look-long, look-other, look-same, has-more}
+use Rattle.names.proofs.Stacks.{upTo, look-long, look-pair, has-more}
 use Rattle.names.proofs.Stages.{Stage, lastName}
 use Rattle.names.proofs.Runs.{colon-stops}
 
@@ -58,7 +58,7 @@ module _ {cap : ℕ} {s st ln : List ℕ} {base top last size count i : ℕ}
         → Looked s st ln (lastName s last size) base (k + 1) count (more + 1)
     look-differs f d =
         let r =
-        look-other s st ln (lastName s last size) base (m .seen) there (m .none) (rw (name-length, ← m .at) f)
+        look-pair s st ln (lastName s last size) base (m .seen) there (m .none) false (rw (name-length, ← m .at) f)
         (rw (← m .at, f) d) in
         record {
           seen = suc (m .seen);
@@ -76,7 +76,7 @@ module _ {cap : ℕ} {s st ln : List ℕ} {base top last size count i : ℕ}
         let name = lastName s last size in
         let all = upTo s st ln base (g .stack .number) in
         let r =
-        look-same s st ln name base (m .seen) there (m .none) (rw (name-length, ← m .at) f) (rw (← m .at, f) d) in
+        look-pair s st ln name base (m .seen) there (m .none) true (rw (name-length, ← m .at) f) (rw (← m .at, f) d) in
         let q =
         has-more s st ln name base (suc (m .seen)) (g .stack .number) (omega (arith, m .at, g .stack .tops)) (r .0) in
         let w : length s - length (drop last s) ≡ last = omega (arith, length-drop last s, g .string) in

@@ -11,7 +11,8 @@ use Rattle.laws.proofs.Tests.{by-test}
 use Rattle.json.specs.Depth.Mode.{outside}
 use Rattle.names.specs.declared.Search.{Search}
 use Rattle.names.specs.declared.Escaped.the-variants.{Plain, Holds}
-use Rattle.names.specs.Strings.{toClose, slashed}
+use Rattle.json.specs.Strings.{toClose}
+use Rattle.names.specs.Strings.{slashed}
 use Rattle.names.specs.Order.{Names}
 use Rattle.names.specs.Names.{plan12, run, escapedBy, escapedOf}
 use Rattle.names.specs.Names.State.{going}

@@ -16,7 +16,8 @@ use Rattle.json.specs.Depth.Mode.{outside, inside, hidden}
 use Rattle.json.specs.Depth.Kind.{slash, code}
 use Rattle.json.specs.Depth.Bracket.{neither}
 use Rattle.names.specs.declared.Search.{Search}
-use Rattle.names.specs.Strings.{toClose, spelled}
+use Rattle.json.specs.Strings.{toClose}
+use Rattle.names.specs.Strings.{spelled}
 use Rattle.names.specs.Order.{Names, pairs}
 use Rattle.names.specs.Names.{Plan, room, State, step, run, answer}
 use Rattle.names.specs.Names.State.{going, stopped, full}

@@ -12,7 +12,8 @@ use Rattle.json.specs.Grammar.HexDigit.{hex-digit, hex-upper, hex-lower}
 use Rattle.json.specs.Grammar.Hex.{hex-none, hex-more}
 use Rattle.json.specs.Grammar.Escape.{esc-byte, esc-hex}
 use Rattle.json.specs.Grammar.Chars.{chars-close, chars-plain, chars-escape}
-use Rattle.names.specs.Strings.{toClose, spelled}
+use Rattle.json.specs.Strings.{toClose}
+use Rattle.names.specs.Strings.{spelled}
 
 -- hexadecimal digits are neither mark nor backslash
 hex-spelled : {n : ℕ} {w ds r : List ℕ} → Hex n w ds r → spelled w ≡ ds ++ spelled r

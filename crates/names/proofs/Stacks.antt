@@ -3,7 +3,7 @@
 use Prim.Native.Nat.{ℕ, zero, suc, _+_, _≤_, _<_}
 use native.Mathlib.Omega.{arith}
 use mathlib.Core.Path.{_≡_, refl, _∙_, ap}
-use mathlib.Core.Bool.{true, false}
+use mathlib.Core.Bool.{Bool, true, false}
 use mathlib.Core.List.{List, [], _∷_}
 use borrow.Author.Tests.{ne-eqb, eq-eqb, ltb-true, ltb-false}
 use lib.Dec.{ltb}
@@ -89,7 +89,7 @@ entry-length : (s st ln : List ℕ) (k : ℕ) → getD st k 0 + 1 + getD ln k 0 
 entry-length s st ln k h =
     omega (arith, length-take (getD ln k 0) (drop (getD st k 0 + 1) s), length-drop (getD st k 0 + 1) s)
 
--- one more of the earlier names was looked at: it has another length, is another name, or is the same
+-- one more of the earlier names was looked at: it has another length, or it is compared
 module _ (s st ln name : List ℕ) (lo n : ℕ) (h : getD st (lo + n) 0 + 1 + getD ln (lo + n) 0 ≤ length s)
     (f : has name (upTo s st ln lo n) ≡ false) where
   pub look-long : (getD ln (lo + n) 0 ≡ length name → ⊥)
@@ -102,20 +102,11 @@ module _ (s st ln name : List ℕ) (lo n : ℕ) (h : getD st (lo + n) 0 + 1 + ge
       let y = ne-eqb (length (entry s st ln (lo + n))) (length name) (λ k. g (omega arith)) in
       (rw (f, x), rw (f, y) (omega arith))
 
-  pub look-other : getD ln (lo + n) 0 ≡ length name → same name (entry s st ln (lo + n)) ≡ false
-      → (has name (upTo s st ln lo (suc n)) ≡ false)
+  pub look-pair : (r : Bool) → getD ln (lo + n) 0 ≡ length name → same name (entry s st ln (lo + n)) ≡ r
+      → (has name (upTo s st ln lo (suc n)) ≡ r)
       × (pairs name (upTo s st ln lo (suc n)) ≡ pairs name (upTo s st ln lo n) + 1)
   unfolding has pairs
-  look-other g x =
-      let e = entry-length s st ln (lo + n) h in
-      let y = eq-eqb (length (entry s st ln (lo + n))) (length name) (omega arith) in
-      (rw (f, x), rw (f, y))
-
-  pub look-same : getD ln (lo + n) 0 ≡ length name → same name (entry s st ln (lo + n)) ≡ true
-      → (has name (upTo s st ln lo (suc n)) ≡ true)
-      × (pairs name (upTo s st ln lo (suc n)) ≡ pairs name (upTo s st ln lo n) + 1)
-  unfolding has pairs
-  look-same g x =
+  look-pair r g x =
       let e = entry-length s st ln (lo + n) h in
       let y = eq-eqb (length (entry s st ln (lo + n))) (length name) (omega arith) in
       (rw (f, x), rw (f, y))

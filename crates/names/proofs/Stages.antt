@@ -12,7 +12,7 @@ use lib.Seq.{getD-set-same}
 use Rattle.laws.proofs.Tests.{by-test}
 use Rattle.json.specs.Depth.Mode.{outside}
 use Rattle.names.specs.declared.Search.the-variants.{Clear, Full}
-use Rattle.names.specs.Strings.{toClose}
+use Rattle.json.specs.Strings.{toClose}
 use Rattle.names.specs.Order.{Names, has, pairs}
 use Rattle.names.specs.Names.{room, plan13, run, searchOf}
 use Rattle.names.specs.Names.State.{going}

@@ -11,7 +11,8 @@ use lib.Dec.{eqb}
 use lib.ListN.{length, drop, take, getD, length-drop, drop-of-length-le}
 use lib.Seq.{drop-cons}
 use Rattle.laws.proofs.Tests.{by-test}
-use Rattle.names.specs.Strings.{toClose, same, slashed}
+use Rattle.json.specs.Strings.{toClose}
+use Rattle.names.specs.Strings.{same, slashed}
 
 -- what is left at a byte is the byte and what is left behind it
 pub split : (s : List ℕ) (i : ℕ) → i < length s → drop i s ≡ getD s i 0 ∷ drop (i + 1) s

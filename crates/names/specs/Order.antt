@@ -53,6 +53,7 @@ thenOut (found v q) f = found v q
 abbrev pub named : Stop → List ℕ → List ℕ → Names → ℕ → (ℕ → Out) → Out
 named stop w n c p f = cond (stop n c) (found w (p + pairs n c)) (f (p + pairs n c))
 
+-- the names in a value, in an array's elements, in a member's value, and those of an object's members, p pairs being past
 unfoldable mutual
   pub seekValue : (stop : Stop) {w r : List ℕ} {j : Json} → Value w j r → ℕ → Out
   seekValue stop (val-scalar h) p = on p

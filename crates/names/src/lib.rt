@@ -3,7 +3,8 @@ ghost use mathlib.Core.Path.{_≡_};
 ghost use mathlib.Core.Bool.{false};
 ghost use Prim.Native.Nat.{_+_, _≤_};
 ghost use lib.ListN.{length, drop, take};
-ghost use Rattle.names.specs.Strings.{toClose, slashed, same as sameBytes};
+ghost use Rattle.json.specs.Strings.{toClose};
+ghost use Rattle.names.specs.Strings.{slashed, same as sameBytes};
 ghost use Rattle.names.specs.Names.{escapedOf, searchOf, repeatOf};
 
 // Of rule 12. Holds(p): the opening mark of the first name with a backslash is byte p.

@@ -6,7 +6,7 @@ use mathlib.Core.Path.{_≡_}
 use mathlib.Core.Bool.{false}
 use lib.ListN.{length, drop}
 use borrow.Author.Needs.{needs}
-use Rattle.names.specs.Strings.{toClose}
+use Rattle.json.specs.Strings.{toClose}
 use Rattle.names.proofs.Strings.{close-here, close-plain, close-hide, close-last, close-end}
 use Rattle.names.proofs.close.Statement.{statement}
 use Rattle.names.proofs.close.Tie as tie
