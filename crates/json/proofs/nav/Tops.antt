@@ -31,7 +31,7 @@ pub accepted : (s : List ℕ) (p : ℕ) → scanOf 32 s ≡ Past p →
     (ms : Fields) × (treeOf 32 s ≡ some (Json.object ms)) × Stands (drop (startOf s) s) (Json.object ms)
 accepted s p e =
     let k = past-says (checked 32 s) e in
-    (k .0, tree-complete 32 s (Json.object (k .0)) (k .1) (k .2), top-stands (k .1) (k .2))
+    (k .1, tree-complete 32 s (Json.object (k .1)) (k .2) (k .3), top-stands (k .2) (k .3))
 
 -- a refused text has no tree that is an object
 pub refused : (s : List ℕ) → ((p : ℕ) → scanOf 32 s ≡ Past p → ⊥) → objectOf (treeOf 32 s) ≡ none
