@@ -9,6 +9,7 @@ or-true true b h = refl
 or-true false b (inl h) = absurd (true≢false (sym h))
 or-true false b (inr h) = h
 
+-- one of the two did
 pub or-cases : (a b : Bool) → a || b ≡ true → (a ≡ true) ⊎ (b ≡ true)
 or-cases true b h = inl refl
 or-cases false b h = inr h
@@ -24,6 +25,7 @@ or-swap true true c = refl
 or-swap true false c = refl
 or-swap false b c = refl
 
+-- of four parts too
 pub or-sort : (a b c d : Bool) → a || ((b || c) || d) ≡ (a || c) || (b || d)
 or-sort true b c d = refl
 or-sort false true true d = refl

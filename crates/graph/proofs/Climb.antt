@@ -22,6 +22,7 @@ climb-same up down h (suc k) x = rw (climb-same up down h k x) (h (climb down k 
 
 -- From m on there is nothing: a node without a parent goes to m, and past m the way stays past m.
 module _ (up : ℕ → ℕ) (m x : ℕ) (stays : (y : ℕ) → m ≤ y → m ≤ up y) where
+  -- past m at a step, past m at each of the next t
   gone : (k t : ℕ) → m ≤ climb up k x → m ≤ climb up (t + k) x
   gone k zero h = rw zero-add h
   gone k (suc t) h = rw suc-add (stays (climb up (t + k) x) (gone k t h))
@@ -30,11 +31,13 @@ module _ (up : ℕ → ℕ) (m x : ℕ) (stays : (y : ℕ) → m ≤ y → m ≤
   pub later : (k j : ℕ) → k ≤ j → m ≤ climb up k x → m ≤ climb up j x
   later k j l h = let e : (j - k) + k ≡ j = omega arith in rw e at (gone k (j - k) h)
 
+  -- at a node after m steps, so at each step before
   early : climb up m x < m → (k : ℕ) → k ≤ m → climb up k x < m
   early h k l =
       by-test (ltb (climb up k x) m) (λ t. ltb-true (climb up k x) m t)
       (λ t. absurd (omega (arith, later k m l (ltb-false (climb up k x) m t))))
 
+  -- from one node the way up is the same
   along : (i j t : ℕ) → climb up i x ≡ climb up j x → climb up (t + i) x ≡ climb up (t + j) x
   along i j zero e = rw (zero-add i, zero-add j) e
   along i j (suc t) e = rw (suc-add t i, suc-add t j) (ap up (along i j t e))

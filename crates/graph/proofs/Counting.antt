@@ -99,6 +99,7 @@ pub record Where (x : ℕ) (lists : List (List ℕ)) : Type 0 where
   pub below : list < length lists
   pub here : 0 < times x (getD lists list [])
 
+-- so it is wherever a number stands in all lists together
 pub joined-where : (x : ℕ) (lists : List (List ℕ)) → 0 < times x (joined lists) → Where x lists
 unfolding times joined
 joined-where x [] h = absurd (not-suc-le-zero h)
@@ -116,6 +117,7 @@ pub record Passes (test : ℕ → Bool) (list : List ℕ) : Type 0 where
   pub there : In entry list
   pub passes : test entry ≡ true
 
+-- an entry that passes makes the test hold of the list, ..
 pub any-in : (test : ℕ → Bool) (x : ℕ) (list : List ℕ) → In x list → test x ≡ true → anyIn test list ≡ true
 unfolding anyIn
 any-in test x [] (at j l e) h = absurd (not-suc-le-zero l)
@@ -123,6 +125,7 @@ any-in test x (y ∷ list) (at zero l e) h = or-true (test y) (anyIn test list) 
 any-in test x (y ∷ list) (at (suc j) l e) h =
     or-true (test y) (anyIn test list) (inr (any-in test x list (at j (le-of-suc-le-suc l) e) h))
 
+-- .. and back
 pub in-any : (test : ℕ → Bool) (list : List ℕ) → anyIn test list ≡ true → Passes test list
 unfolding anyIn
 in-any test [] h = absurd (true≢false (sym h))

@@ -43,6 +43,7 @@ unfolding earlier
 earlier-true i s =
     by-test (ltb i s) (λ t. rw t (omega (arith, ltb-true i s t))) (λ f. rw f (omega (arith, ltb-false i s f)))
 
+-- where the test fails nothing changes
 pub earlier-false : (i s : ℕ) → earlier false i s ≡ s
 unfolding earlier
 earlier-false i s = refl
@@ -69,6 +70,7 @@ feed-keep step Ok i keep s (x ∷ list) ok = feed-keep step Ok i keep (step s i 
 module _ {S : Type 0} (step : S → ℕ → ℕ → S) (get : S → ℕ) (test : ℕ → Bool) (Ok : S → Type 0)
     (one : (s : S) (i x : ℕ) → Ok s → get (step s i x) ≡ earlier (test x) i (get s))
     (keep : (s : S) (i x : ℕ) → Ok s → Ok (step s i x)) where
+  -- a pass over one list: what its test of the whole list finds
   pub feed-test : (s : S) (i : ℕ) (list : List ℕ) → Ok s → get (feed step s i list) ≡ earlier (anyIn test list) i (get s)
   unfolding feed anyIn
   feed-test s i [] ok = sym (earlier-false i (get s))
@@ -83,6 +85,7 @@ module _ {S : Type 0} (step : S → ℕ → ℕ → S) (get : S → ℕ) (test :
     (one : (s : S) (i : ℕ) (list : List ℕ) → i < b → Q list → Ok i s
     → get (feed step s i list) ≡ earlier (test list) i (get s))
     (keep : (s : S) (i : ℕ) (list : List ℕ) → Q list → Ok i s → Ok (suc i) (feed step s i list)) where
+  -- a pass over all lists: the smallest list that the test finds, or what was found before
   pub feedAll-test : (s : S) (i : ℕ) (lists : List (List ℕ)) → get s ≤ i + length lists → i + length lists ≤ b
       → ((k : ℕ) → k < length lists → Q (getD lists k [])) → Ok i s
       → get (feedAll step s i lists) ≡ min (get s) (i + least (λ k. test (getD lists k [])) (length lists))

@@ -22,15 +22,18 @@ turn-same f g [] h = refl
 turn-same f g (x ∷ list) h = rw (h x (at 0 (omega arith) refl), turn-same f g list (λ y i. h y (in-more x i)))
 
 module _ (kids : List (List ℕ)) (ok : Linked kids) (ends : (x : ℕ) → x < length kids → endless kids x ≡ false) where
+  -- the number of steps up to the top
   abbrev height : ℕ → ℕ
   height = rank (parentOf kids) (length kids)
 
+  -- a child is one step further down
   higher : (p x : ℕ) → Child kids p x → height x ≡ height p + 1
   unfolding endless
   higher p x c =
       let l = ok .nodes p x c in
       rank-more (parentOf kids) (length kids) x p l (parent-is kids ok x p c) (ltb-false _ _ (ends x l))
 
+  -- one level more lists nothing new
   enough : (levels x : ℕ) → x < length kids → length kids < levels + height x
       → preorder kids levels x ≡ preorder kids (suc levels) x
   unfolding preorder

@@ -38,12 +38,15 @@ marked-more marks i x l (y ∷ list) =
     (or-swap (eqb (getD marks y 0) i) (ltb 0 (times x list)) (marked marks i list)))
 
 module _ (parents : List ℕ) (roots : List (List ℕ)) where
+  -- the number of nodes
   abbrev n : ℕ
   n = length parents
 
+  -- the number of scenes
   abbrev s : ℕ
   s = length roots
 
+  -- before the first root
   abbrev start : Marked
   start = unmarked n s
 
@@ -51,12 +54,15 @@ module _ (parents : List ℕ) (roots : List (List ℕ)) where
   abbrev Wide : Marked → Type 0
   Wide m = length (m .marks) ≡ n
 
+  -- a step keeps the number of marks
   wide-step : (m : Marked) (i x : ℕ) → Wide m → Wide (rootStep parents m i x)
   wide-step m i x w = simp length-set w
 
+  -- as many marks as nodes at the start
   start-wide : Wide start
   start-wide = length-replicate n s
 
+  -- the smallest scene is at most the number of scenes
   smaller : (test : List ℕ → Bool)
       → min s (0 + least (λ k. test (getD roots k [])) s) ≡ least (λ k. test (getD roots k [])) s
   smaller test = omega (arith, least-says (λ k. test (getD roots k [])) s .le)
@@ -78,6 +84,7 @@ module _ (parents : List ℕ) (roots : List (List ℕ)) where
   abbrev parented : ℕ → Bool
   parented x = ltb (upIn parents x) n
 
+  -- the smallest scene with a root that has a parent
   pub found-parented : rootsFound parents roots .parented ≡ least (λ k. anyIn parented (getD roots k [])) s
   unfolding rootsFound
   found-parented =
@@ -113,6 +120,7 @@ module _ (parents : List ℕ) (roots : List (List ℕ)) where
     pub wide : Wide m
     pub late : (x : ℕ) → x < n → i ≤ getD (m .marks) x 0 → s ≤ getD (m .marks) x 0
 
+  -- so no root of scene i is marked with i before its first
   fresh-none : (m : Marked) (i : ℕ) → i < s → Fresh i m → (list : List ℕ) → Below n list → marked (m .marks) i list ≡ false
   unfolding anyIn
   fresh-none m i l f [] b = refl
@@ -122,6 +130,7 @@ module _ (parents : List ℕ) (roots : List (List ℕ)) where
       ne-eqb (getD (m .marks) x 0) i (λ e. omega (arith, e, f .late x (leb-false n x (h .0)) (omega (arith, e)))) in
       rw e (fresh-none m i l f list (h .1))
 
+  -- a root of scene i leaves marks up to i
   fresh-step : (i : ℕ) (m : Marked) (x : ℕ) → Fresh (suc i) m → Fresh (suc i) (rootStep parents m i x)
   fresh-step i m x f =
       record {

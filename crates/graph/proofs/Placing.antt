@@ -25,6 +25,7 @@ pub record Room (capacity : ℕ) (starts lengths : List ℕ) (count : ℕ) : Typ
   pub started : count ≤ length starts
   pub measured : count ≤ length lengths
 
+-- what the first three tests say
 pub room : (capacity : ℕ) (starts lengths : List ℕ) (count : ℕ)
     → ltb capacity count || ltb (length starts) count || ltb (length lengths) count ≡ false
     → Room capacity starts lengths count
@@ -42,6 +43,7 @@ pub record Placed (capacity : ℕ) (starts lengths packed : List ℕ) (count : �
   pub fits : count ≤ capacity
   pub lists : (i : ℕ) → i < count → PlacedAt starts lengths packed i
 
+-- what the whole test says
 pub placed : {capacity : ℕ} {starts lengths packed : List ℕ} {count : ℕ}
     → misplaced capacity starts lengths packed count ≡ false → Placed capacity starts lengths packed count
 unfolding misplaced

@@ -14,12 +14,15 @@ use Rattle.graph.specs.Graph.{climb}
 use Rattle.graph.proofs.Climb.{climb-out}
 
 module _ (up : ℕ → ℕ) (n : ℕ) where
+  -- the first step that is past the nodes, n where there is none
   abbrev pub rank : ℕ → ℕ
   rank x = least (λ k. leb n (climb up k x)) n
 
+  -- what that means
   says : (x : ℕ) → Least (λ k. leb n (climb up k x)) n (rank x)
   says x = least-says (λ k. leb n (climb up k x)) n
 
+  -- it is at most n
   pub rank-low : (x : ℕ) → rank x ≤ n
   rank-low x = says x .le
 

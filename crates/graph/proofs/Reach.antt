@@ -23,6 +23,7 @@ pub record Linked (kids : List (List ℕ)) : Type 0 where
   pub once : (x : ℕ) → times x (joined kids) ≤ 1
 
 module _ (kids : List (List ℕ)) where
+  -- what the search for a parent means
   abbrev says : (x : ℕ) → Least (λ p. ltb 0 (times x (getD kids p []))) (length kids) (parentOf kids x)
   says x = least-says (λ p. ltb 0 (times x (getD kids p []))) (length kids)
 

@@ -25,10 +25,12 @@ standing : ℕ → ℕ → ℕ → ℕ → ℕ
 standing n v i zero = v
 standing n v i (suc t) = standing n (mark n v i) i t
 
+-- the list of parents keeps its length
 length-link : (ps : List ℕ) (i c : ℕ) → length (linkParents ps i c) ≡ length ps
 unfolding linkParents
 length-link ps i c = simp length-set
 
+-- one child changes its own entry alone
 getD-link : (ps : List ℕ) (i c x : ℕ) → x < length ps
     → getD (linkParents ps i c) x 0 ≡ cond (eqb c x) (mark (length ps) (getD ps x 0) i) (getD ps x 0)
 unfolding linkParents mark
@@ -37,11 +39,13 @@ getD-link ps i c x l =
     (λ t. let e = eqb-true c x t in rw (t, e) (getD-set-same ps x _ 0 l))
     (λ f. rw f (getD-set-other ps c x _ 0 (λ e. eqb-false c x f (sym e))))
 
+-- the length after one list
 length-feed : (ps : List ℕ) (i : ℕ) (list : List ℕ) → length (feed linkParents ps i list) ≡ length ps
 unfolding feed
 length-feed ps i [] = refl
 length-feed ps i (c ∷ list) = length-feed (linkParents ps i c) i list ∙ length-link ps i c
 
+-- the entry of x after one list
 getD-feed : (ps : List ℕ) (i : ℕ) (list : List ℕ) (x : ℕ) → x < length ps
     → getD (feed linkParents ps i list) x 0 ≡ standing (length ps) (getD ps x 0) i (times x list)
 unfolding feed times standing
@@ -56,11 +60,13 @@ stands : ℕ → ℕ → ℕ → ℕ → List (List ℕ) → ℕ
 stands n x v i [] = v
 stands n x v i (list ∷ lists) = stands n x (standing n v i (times x list)) (suc i) lists
 
+-- the length after all lists
 length-feedAll : (ps : List ℕ) (i : ℕ) (lists : List (List ℕ)) → length (feedAll linkParents ps i lists) ≡ length ps
 unfolding feedAll
 length-feedAll ps i [] = refl
 length-feedAll ps i (list ∷ lists) = length-feedAll (feed linkParents ps i list) (suc i) lists ∙ length-feed ps i list
 
+-- the entry of x after all lists
 getD-feedAll : (ps : List ℕ) (i : ℕ) (lists : List (List ℕ)) (x : ℕ) → x < length ps
     → getD (feedAll linkParents ps i lists) x 0 ≡ stands (length ps) x (getD ps x 0) i lists
 unfolding feedAll stands
@@ -71,41 +77,50 @@ getD-feedAll ps i (list ∷ lists) x l =
 
 -- There are n nodes, and the number for twice is none of them.
 module _ (n x : ℕ) (small : n < 65535) where
+  -- a child that has a parent
   marked : (v i : ℕ) → (v ≡ n → ⊥) → mark n v i ≡ 65535
   unfolding mark
   marked v i ne = rw (ne-eqb v n ne)
 
+  -- a child that has none
   first : (i : ℕ) → mark n n i ≡ i
   unfolding mark
   first i = rw (eq-eqb n n refl)
 
+  -- 65535 stays
   standing-stays : (i t : ℕ) → standing n 65535 i t ≡ 65535
   unfolding standing
   standing-stays i zero = refl
   standing-stays i (suc t) = rw (marked 65535 i (λ e. omega arith)) (standing-stays i t)
 
+  -- a child that has a parent, listed again
   standing-other : (v i t : ℕ) → (v ≡ n → ⊥) → 0 < t → standing n v i t ≡ 65535
   unfolding standing
   standing-other v i zero ne h = absurd (omega arith)
   standing-other v i (suc t) ne h = rw (marked v i ne) (standing-stays i t)
 
+  -- a child that has none, listed once
   standing-once : (i t : ℕ) → t ≡ 1 → standing n n i t ≡ i
   unfolding standing
   standing-once i t e = rw e (first i)
 
+  -- a child that has none, listed more than once
   standing-twice : (i t : ℕ) → i < n → 1 < t → standing n n i t ≡ 65535
   unfolding standing
   standing-twice i zero l h = absurd (omega arith)
   standing-twice i (suc t) l h = rw (first i) (standing-other i i t (λ e. omega arith) (omega arith))
 
+  -- a child that is not listed
   standing-zero : (v i t : ℕ) → t ≡ 0 → standing n v i t ≡ v
   unfolding standing
   standing-zero v i t e = rw e
 
+  -- the first list, and the others
   all : (list : List ℕ) (lists : List (List ℕ)) → times x (joined (list ∷ lists)) ≡ times x list + times x (joined lists)
   unfolding joined
   all list lists = times-append x list (joined lists)
 
+  -- where x stands in no list, its entry stays
   stands-none : (v i : ℕ) (lists : List (List ℕ)) → times x (joined lists) ≡ 0 → stands n x v i lists ≡ v
   unfolding stands
   stands-none v i [] e = refl
@@ -113,11 +128,13 @@ module _ (n x : ℕ) (small : n < 65535) where
       rw (standing-zero v i (times x list) (omega (arith, all list lists)))
       (stands-none v (suc i) lists (omega (arith, all list lists)))
 
+  -- 65535 stays over all lists
   stands-stays : (i : ℕ) (lists : List (List ℕ)) → stands n x 65535 i lists ≡ 65535
   unfolding stands
   stands-stays i [] = refl
   stands-stays i (list ∷ lists) = rw (standing-stays i (times x list)) (stands-stays (suc i) lists)
 
+  -- where x had a parent and stands in a list
   stands-other : (v i : ℕ) (lists : List (List ℕ)) → (v ≡ n → ⊥) → 0 < times x (joined lists) → stands n x v i lists ≡ 65535
   unfolding stands joined times
   stands-other v i [] ne h = absurd (omega arith)
@@ -141,6 +158,7 @@ module _ (n x : ℕ) (small : n < 65535) where
       rw (f, standing-zero n i (times x list) z)
       (stands-once (suc i) lists (omega (arith, all list lists)) ∙ omega arith))
 
+  -- where x stands more than once
   stands-twice : (i : ℕ) (lists : List (List ℕ)) → i + length lists ≤ n → 1 < times x (joined lists)
       → stands n x n i lists ≡ 65535
   unfolding stands joined times
@@ -157,21 +175,26 @@ module _ (n x : ℕ) (small : n < 65535) where
 
 -- The list of parents after all children.
 module _ (kids : List (List ℕ)) (small : length kids < 65535) where
+  -- as many entries as nodes
   pub length-parents : length (childrenParents kids) ≡ length kids
   unfolding childrenParents
   length-parents = length-feedAll _ 0 kids ∙ length-replicate (length kids) (length kids)
 
+  -- the entry of x from the first child on
   entry : (x : ℕ) → x < length kids → getD (childrenParents kids) x 0 ≡ stands (length kids) x (length kids) 0 kids
   unfolding childrenParents
   entry x l =
       getD-feedAll (replicate (length kids) (length kids)) 0 kids x (rw (length-replicate (length kids) (length kids)) l)
       ∙ rw (length-replicate (length kids) (length kids), getD-replicate (length kids) x (length kids) 0 l)
 
+  -- x is no child
   pub entry-none : (x : ℕ) → x < length kids → times x (joined kids) ≡ 0 → getD (childrenParents kids) x 0 ≡ length kids
   entry-none x l e = entry x l ∙ stands-none (length kids) x small (length kids) 0 kids e
 
+  -- x is a child once
   pub entry-once : (x : ℕ) → x < length kids → times x (joined kids) ≡ 1 → getD (childrenParents kids) x 0 ≡ parentOf kids x
   entry-once x l e = entry x l ∙ stands-once (length kids) x small 0 kids e ∙ omega arith
 
+  -- x is a child more than once
   pub entry-twice : (x : ℕ) → x < length kids → 1 < times x (joined kids) → getD (childrenParents kids) x 0 ≡ 65535
   entry-twice x l h = entry x l ∙ stands-twice (length kids) x small 0 kids (omega arith) h

@@ -43,15 +43,19 @@ past-is kids =
     ∙ omega (arith, least-says (λ i. anyIn (leb n) (getD kids i [])) n .le)
 
 module _ (kids : List (List ℕ)) (small : length kids < 65535) where
+  -- the list of parents after all children
   abbrev parents : List ℕ
   parents = childrenParents kids
 
+  -- as many entries as nodes
   wide : length parents ≡ length kids
   wide = length-parents kids small
 
+  -- a parent is at most the number of nodes
   parent-low : (x : ℕ) → parentOf kids x ≤ length kids
   parent-low x = least-says (λ p. ltb 0 (times x (getD kids p []))) (length kids) .le
 
+  -- and so is the entry of a node that is a child at most once
   entry-low : (x : ℕ) → x < length kids → times x (joined kids) ≤ 1 → getD parents x 0 ≤ length kids
   entry-low x l h =
       by-test (ltb 0 (times x (joined kids)))
@@ -93,15 +97,19 @@ module _ (kids : List (List ℕ)) (small : length kids < 65535) where
 
 -- The answers rule by rule, each where the smaller rules that it needs hold, are the verdict.
 module _ (kids roots : List (List ℕ)) (past : ℕ) (parents : List ℕ) (found : Roots) where
+  -- the smallest item that breaks a rule
   abbrev item : ℕ → ℕ
   item = graphItem kids roots
 
+  -- no item breaks a rule
   abbrev holds : ℕ → Type 0
   holds = Holds kids roots
 
+  -- a test that fails: the rule holds
   clean : (k : ℕ) → ltb (item k) (graphItems kids roots k) ≡ false → holds k
   clean k f = any-no (graphBroken kids roots k) (graphItems kids roots k) f
 
+  -- six answers in their order are the fault
   agree : past ≡ item 0 → length parents ≡ length kids → firstTwice parents ≡ item 1
       → (holds 0 → holds 1 → firstEndless parents ≡ item 2)
       → found .past ≡ item 3 → (holds 3 → found .twice ≡ item 4) → (holds 0 → holds 1 → found .parented ≡ item 5)

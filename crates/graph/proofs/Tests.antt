@@ -39,10 +39,12 @@ module _ (kids roots : List (List ℕ)) where
           absurd (h42 x (child-again x l (again-times x (joined kids) a))))
           (λ f. ltb-false 1 (times x (joined kids)) f)
 
+  -- a list with an entry that is no node
   past : (lists : List (List ℕ)) (n i : ℕ) → anyIn (leb n) (getD lists i []) ≡ true → i < length lists
       → (x : ℕ) × Child lists i x × (n ≤ x)
   past lists n i t l = let p = in-any (leb n) (getD lists i []) t in (p .entry, (l, p .there), leb-true _ _ (p .passes))
 
+  -- a scene with a root that has a parent
   below : (i : ℕ) → anyIn (λ x. ltb (parentOf kids x) (length kids)) (getD roots i []) ≡ true → i < length roots
       → Broken kids roots 46 i
   below i t l =

@@ -15,11 +15,13 @@ use Rattle.laws.proofs.Search.{any-none}
 use Rattle.graph.specs.Graph.{joined, graphFault}
 use Rattle.graph.specs.Packing.{listAt, packedLists, misplaced, packedFaultOf, startsFrom, lengthsOf}
 
+-- a start for each list
 pub length-starts : (at : ℕ) (lists : List (List ℕ)) → length (startsFrom at lists) ≡ length lists
 unfolding startsFrom
 length-starts at [] = refl
 length-starts at (list ∷ lists) = ap suc (length-starts _ lists)
 
+-- a length for each list
 pub length-lengths : (lists : List (List ℕ)) → length (lengthsOf lists) ≡ length lists
 unfolding lengthsOf
 length-lengths [] = refl
@@ -60,18 +62,23 @@ end-at at (list ∷ lists) (suc i) l =
 
 -- Lists, and what stands after their records and after their entries.
 module _ (lists : List (List ℕ)) (a b c : List ℕ) where
+  -- the starts
   abbrev starts : List ℕ
   starts = startsFrom 0 lists ++ a
 
+  -- the lengths
   abbrev lengths : List ℕ
   lengths = lengthsOf lists ++ b
 
+  -- the packed list
   abbrev packed : List ℕ
   packed = joined lists ++ c
 
+  -- a start is not changed by what stands after
   start-is : (i : ℕ) → i < length lists → getD starts i 0 ≡ getD (startsFrom 0 lists) i 0
   start-is i l = List·getD-append (startsFrom 0 lists) a 0 i (omega (arith, length-starts 0 lists))
 
+  -- nor is a length
   length-is : (i : ℕ) → i < length lists → getD lengths i 0 ≡ getD (lengthsOf lists) i 0
   length-is i l = List·getD-append (lengthsOf lists) b 0 i (omega (arith, length-lengths lists))
 
@@ -79,6 +86,7 @@ module _ (lists : List (List ℕ)) (a b c : List ℕ) where
   pub unpack-at : (i : ℕ) → i < length lists → listAt starts lengths packed i ≡ getD lists i []
   unpack-at i l = rw (start-is i l, length-is i l) (part-at [] lists c i l)
 
+  -- the first n lists come back
   front : (n : ℕ) → n ≤ length lists → packedLists starts lengths packed n ≡ take n lists
   unfolding packedLists
   front zero l = refl

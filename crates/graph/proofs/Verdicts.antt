@@ -17,9 +17,11 @@ use Rattle.graph.proofs.Reach.{Linked}
 use Rattle.graph.proofs.Tests.{Holds, linked, test-broken, broken-test}
 
 module _ (kids roots : List (List ℕ)) where
+  -- the rule that is found
   abbrev rule : ℕ
   rule = graphRule kids roots
 
+  -- what that means
   says : Least (λ k. anyBelow (graphBroken kids roots k) (graphItems kids roots k)) 6 rule
   says = least-says (λ k. anyBelow (graphBroken kids roots k) (graphItems kids roots k)) 6
 
@@ -27,14 +29,17 @@ module _ (kids roots : List (List ℕ)) where
   pub below-holds : (k : ℕ) → k < rule → Holds kids roots k
   below-holds k l = any-no (graphBroken kids roots k) (graphItems kids roots k) (says .fails k l)
 
+  -- rules 41 and 42 together, where they are below it
   below-linked : 1 < rule → Linked kids
   below-linked l = linked kids roots (below-holds 0 (omega arith)) (below-holds 1 (omega arith))
 
+  -- no rule below it is broken
   below-sound : (n i : ℕ) → n < 41 + rule → Broken kids roots n i → ⊥
   below-sound n i l b =
       let t = broken-test kids roots (λ h. below-linked (omega arith)) b in
       true≢false (sym (t .holds) ∙ below-holds (n - 41) (omega (arith, t .from)) i (t .item))
 
+  -- it is broken, by its item first
   verdict : rule < 6 → Verdict kids roots (41 + rule) (graphItem kids roots rule)
   verdict l =
       let a = any-at (graphBroken kids roots rule) (graphItems kids roots rule) (says .holds l) in
@@ -49,6 +54,7 @@ module _ (kids roots : List (List ℕ)) where
         smallest = below-sound;
       }
 
+  -- so the fault is the answer
   pub answer : Answer kids roots (graphFault kids roots)
   unfolding graphFault
   answer =

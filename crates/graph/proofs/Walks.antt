@@ -111,18 +111,23 @@ module _ (kids : List (List ℕ)) where
 -- A graph that breaks no rule, one of its scenes, and levels enough.
 module _ (kids roots : List (List ℕ)) (sound : graphFault kids roots .number ≡ 0) (levels scene : ℕ)
     (deep : length kids ≤ levels) (there : scene < length roots) where
+  -- the scene's roots
   abbrev list : List ℕ
   list = getD roots scene []
 
+  -- the order of the walk
   abbrev order : List ℕ
   order = sceneOrder kids levels list
 
+  -- rules 41 and 42
   ok : Linked kids
   ok = linked kids roots (sound-holds kids roots sound 0 (omega arith)) (sound-holds kids roots sound 1 (omega arith))
 
+  -- rule 43
   ends : (x : ℕ) → x < length kids → endless kids x ≡ false
   ends = sound-holds kids roots sound 2 (omega arith)
 
+  -- the words of the walk
   told : (x : ℕ) → x < length kids → preorder kids levels x ≡ x ∷ inTurn (preorder kids levels) (getD kids x [])
   told x l = order-is kids ok ends levels x deep l
 
@@ -133,6 +138,7 @@ module _ (kids roots : List (List ℕ)) (sound : graphFault kids roots .number �
       (λ f. let t = any-in (leb (length kids)) x list i (le-leb (length kids) x (ltb-false x (length kids) f)) in
       absurd (true≢false (sym t ∙ sound-holds kids roots sound 3 (omega arith) scene there)))
 
+  -- a root is listed once
   root-once : (x : ℕ) → times x list ≤ 1
   root-once x =
       by-test (ltb 1 (times x list))
@@ -140,6 +146,7 @@ module _ (kids roots : List (List ℕ)) (sound : graphFault kids roots .number �
       absurd (true≢false (sym a ∙ sound-holds kids roots sound 4 (omega arith) scene there)))
       (λ f. ltb-false 1 (times x list) f)
 
+  -- what has a parent is no root
   root-top : (x p : ℕ) → Child kids p x → times x list ≡ 0
   root-top x p c =
       by-test (ltb 0 (times x list))
@@ -149,6 +156,7 @@ module _ (kids roots : List (List ℕ)) (sound : graphFault kids roots .number �
       absurd (true≢false (sym a ∙ sound-holds kids roots sound 5 (omega arith) scene there)))
       (λ f. omega (arith, ltb-false 0 (times x list) f))
 
+  -- what is under a node is a node
   under-low : {p x : ℕ} → Under kids p x → x < length kids
   under-low {p} {x} (child c) = ok .nodes p x c
   under-low (deeper c d u) = under-low u
@@ -163,6 +171,7 @@ module _ (kids roots : List (List ℕ)) (sound : graphFault kids roots .number �
       go i (inl e) = root (subst (λ (y : ℕ). In y list) e i)
       go {r} i (inr u) = below r i u
 
+  -- what is listed is a node
   order-low : (x : ℕ) → 0 < times x order → x < length kids
   order-low x h = go (is-shown x h)
     where
@@ -175,6 +184,7 @@ module _ (kids roots : List (List ℕ)) (sound : graphFault kids roots .number �
   unfolding times
   self x l = rw (told x l, eq-eqb x x refl) (omega arith)
 
+  -- what is under a node is listed with it
   under-listed : {r x : ℕ} → r < length kids → Under kids r x → 0 < times x (preorder kids levels r)
   under-listed {r} {x} l (child c) =
       let h = turn-some (preorder kids levels) x x (getD kids r []) (c .1) (self x (ok .nodes r x c)) in
@@ -183,6 +193,7 @@ module _ (kids roots : List (List ℕ)) (sound : graphFault kids roots .number �
       let h = turn-some (preorder kids levels) x c (getD kids r []) (d .1) (under-listed (ok .nodes r c d) u) in
       rw (told r l) (omega (arith, times-cons x r (inTurn (preorder kids levels) (getD kids r []))))
 
+  -- what is a root or under one is listed
   is-listed : (x : ℕ) → Shown kids list x → 0 < times x order
   is-listed x (root i) = turn-some (preorder kids levels) x x list i (self x (root-low x i))
   is-listed x (below r i u) = turn-some (preorder kids levels) x r list i (under-listed (root-low r i) u)
@@ -196,6 +207,7 @@ module _ (kids roots : List (List ℕ)) (sound : graphFault kids roots .number �
       rw (eq-eqb r (parentOf kids y) (sym (parent-is kids ok y r c))) (omega (arith, times-joined y r kids, ok .once y)))
       (λ f. omega (arith, ltb-false 0 (times y (getD kids r [])) f))
 
+  -- the number of nodes is not listed
   nowhere : times (length kids) order ≡ 0
   nowhere =
       by-test (ltb 0 (times (length kids) order))
@@ -211,12 +223,14 @@ module _ (kids roots : List (List ℕ)) (sound : graphFault kids roots .number �
       let le = rw (parent-is kids ok y p c) at (once-le kids y (parentOf kids y) (only y) levels list) in
       omega (arith, le, root-top y p c, reach-once r)
 
+  -- so every number is listed at most once
   order-once : (x : ℕ) → times x order ≤ 1
   order-once x =
       by-test (ltb 0 (times x order))
       (λ t. let l = order-low x (ltb-true 0 (times x order) t) in reach-once (ends-reaches kids ok x l (ends x l)))
       (λ f. omega (arith, ltb-false 0 (times x order) f))
 
+  -- all together
   pub walk-is : Walk kids list order
   walk-is =
       record {

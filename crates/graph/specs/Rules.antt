@@ -14,7 +14,7 @@ pub data In (x : ℕ) (list : List ℕ) : Type 0 where
 pub data Again (x : ℕ) (list : List ℕ) : Type 0 where
   at : (i j : ℕ) → i < j → j < length list → getD list i 0 ≡ x → getD list j 0 ≡ x → Again x list
 
--- x is a child of the node p
+-- x is an entry of list p: a child of node p in the children lists, a root of scene p in the root lists
 abbrev pub Child : List (List ℕ) → ℕ → ℕ → Type 0
 Child kids p x = (p < length kids) × In x (getD kids p [])
 
@@ -25,11 +25,17 @@ pub data Reaches (kids : List (List ℕ)) : ℕ → Type 0 where
 
 -- the rule with this number is broken by this item
 pub data Broken (kids roots : List (List ℕ)) : ℕ → ℕ → Type 0 where
+  -- a child index is not below the number of nodes
   child-past : (node x : ℕ) → Child kids node x → length kids ≤ x → Broken kids roots 41 node
+  -- a node stands more than once in all children lists together
   child-again : (x : ℕ) → x < length kids → Again x (joined kids) → Broken kids roots 42 x
+  -- going up by parents from a node never reaches one without a parent
   no-top : (x : ℕ) → x < length kids → (Reaches kids x → ⊥) → Broken kids roots 43 x
+  -- a scene's root does not exist
   root-past : (scene x : ℕ) → Child roots scene x → length kids ≤ x → Broken kids roots 44 scene
+  -- a scene lists a root twice
   root-again : (scene x : ℕ) → scene < length roots → Again x (getD roots scene []) → Broken kids roots 45 scene
+  -- a listed root has a parent
   root-below : (scene x p : ℕ) → Child roots scene x → Child kids p x → Broken kids roots 46 scene
 
 -- the rule is broken by the item and by no smaller one, and no smaller rule is broken

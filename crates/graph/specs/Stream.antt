@@ -49,13 +49,15 @@ rootOf found marks parents scene x =
 unfoldable pub endlessIn : List ℕ → ℕ → Bool
 endlessIn parents x = ltb (climb (upIn parents) (length parents) x) (length parents)
 
--- the smallest child met twice, and the smallest node from which the way up does not end; the number of nodes if none
+-- the smallest child met twice, the number of nodes if none
 unfoldable pub firstTwice : List ℕ → ℕ
 firstTwice parents = least (λ x. eqb (getD parents x 0) 65535) (length parents)
 
+-- the smallest node from which the way up does not end, the number of nodes if none
 unfoldable pub firstEndless : List ℕ → ℕ
 firstEndless parents = least (endlessIn parents) (length parents)
 
+-- a fault from its number and item
 abbrev fault : ℕ → ℕ → Fault
 fault number item = record { number = number; item = item }
 
@@ -88,6 +90,7 @@ pub record Marked : Type 0 where
   pub found : Roots
   pub marks : List ℕ
 
+-- what is kept, from its parts
 abbrev pub marked : Roots → List ℕ → Marked
 marked found marks = record { found = found; marks = marks }
 

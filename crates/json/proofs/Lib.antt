@@ -7,7 +7,7 @@ pub mod Excluded
 mod OneFault
 mod Cuts
 mod Breaks
-mod Marks
+pub mod Marks
 mod Counts
 mod Depths
 mod Tops

@@ -14,7 +14,7 @@ use borrow.Author.Tests.{ne-eqb, eqb-true}
 use lib.Dec.{eqb}
 use lib.ListN.{length, drop, getD, drop-of-length-le}
 use lib.Seq.{drop-cons}
-use Rattle.laws.proofs.Tests.{by-test}
+use Rattle.laws.proofs.Tests.{by-test, or-false}
 use Rattle.json.specs.Strings.{toClose}
 
 -- the byte at i and what follows it
@@ -85,22 +85,12 @@ pub kind-closes : (b : ℕ) → (eqb b 0x5d || eqb b 0x7d) ≡ true → kind b �
 kind-closes b e =
     by-test (eqb b 0x5d) (λ f. let k = eqb-true b 0x5d f in rw k) (λ f. let k = eqb-true b 0x7d (rw f at e) in rw k)
 
--- neither of two tests
-pub neither-of : (x y : Bool) → (x || y) ≡ false → (x ≡ false) × (y ≡ false)
-neither-of true y e = absurd (true≢false e)
-neither-of false y e = (refl, e)
-
--- both of two tests
-pub both-of : (x y : Bool) → (x && y) ≡ true → (x ≡ true) × (y ≡ true)
-both-of true y e = (refl, e)
-both-of false y e = absurd (true≢false (sym e))
-
 -- a byte that is no mark and no bracket
 pub kind-other : (b : ℕ) → (b ≡ 0x22 → ⊥) → (eqb b 0x5b || eqb b 0x7b) ≡ false → (eqb b 0x5d || eqb b 0x7d) ≡ false →
     (kind b ≡ slash) ⊎ (kind b ≡ code neither)
 kind-other b f e g =
-    let x = neither-of (eqb b 0x5b) (eqb b 0x7b) e in
-    let y = neither-of (eqb b 0x5d) (eqb b 0x7d) g in
+    let x = or-false (eqb b 0x5b) (eqb b 0x7b) e in
+    let y = or-false (eqb b 0x5d) (eqb b 0x7d) g in
     by-test (eqb b 0x5c)
     (λ k. inl (rw (ne-eqb b 0x22 f, k)))
     (λ k. inr (rw (ne-eqb b 0x22 f, k, x .0, x .1, y .0, y .1)))

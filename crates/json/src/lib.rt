@@ -12,7 +12,7 @@ mod token;
 mod value;
 
 pub use answer::Scan;
-use string::close;
+pub use string::close;
 use token::peek;
 use token::skip_ws;
 use value::text;

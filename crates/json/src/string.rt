@@ -96,8 +96,7 @@ pub(crate) fn name(s: &[u8], at: usize) -> Scan
 }
 
 // The place of the mark that closes the string whose characters start at `at`; the end where none does.
-pub(crate) fn close(s: &[u8], at: usize) -> usize
-    requires { ⌜ at ≤ length (now s) ⌝ }
+pub fn close(s: &[u8], at: usize) -> usize
     ensures { λ r. ⌜ r ≡ at + toClose false (drop at (now (s .entry))) ⌝ }
 {
     let mut i = at;

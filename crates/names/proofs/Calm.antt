@@ -5,7 +5,7 @@ use mathlib.Core.Path.{_≡_, refl}
 use mathlib.Core.Bool.{false}
 use mathlib.Core.List.{List, [], _∷_}
 use lib.Dec.{eqb}
-use Rattle.laws.proofs.Tests.{by-test}
+use Rattle.laws.proofs.Tests.{by-test, or-false}
 use Rattle.json.specs.Depth.{Mode, Kind, Bracket, kind}
 use Rattle.json.specs.Depth.Mode.{outside, inside, hidden}
 use Rattle.json.specs.Depth.Kind.{mark, slash, code}
@@ -16,7 +16,7 @@ use Rattle.names.specs.Strings.{slashed}
 use Rattle.names.specs.Order.{Names}
 use Rattle.names.specs.Names.{plan12, State, bracketed, outsideStep, step, run, answer, escapedBy, escapedOf}
 use Rattle.names.specs.Names.State.{going}
-use Rattle.names.proofs.Strings.{neither-of, slashed-take}
+use Rattle.names.proofs.Strings.{slashed-take}
 
 -- the search of rule 12 goes on, and the last string has no backslash
 data Calm : State → Type 0 where
@@ -46,7 +46,7 @@ calm-run : (t : State) (w : List ℕ) → Calm t → slashed w ≡ false → Cal
 unfolding run slashed
 calm-run t [] x f = x
 calm-run t (b ∷ w) x f =
-    let h = neither-of (eqb b 0x5c) (slashed w) f in
+    let h = or-false (eqb b 0x5c) (slashed w) f in
     calm-run (step plan12 b w t) w (calm-step b w t x (h .1)) (h .1)
 
 calm-answer : (s : List ℕ) (t : State) → Calm t → Plain ≡ escapedBy (answer s t)

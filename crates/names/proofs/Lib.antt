@@ -1,6 +1,5 @@
 -- What the proofs of several functions use, and the theorems of rules 12 and 13.
 mod Strings
-mod Classes
 mod Runs
 mod Stacks
 mod Stages

@@ -16,7 +16,8 @@ use Rattle.names.specs.Strings.{slashed}
 use Rattle.names.specs.Order.{Names}
 use Rattle.names.specs.Names.{plan12, run, escapedBy, escapedOf}
 use Rattle.names.specs.Names.State.{going}
-use Rattle.names.proofs.Strings.{past, close-in}
+use Rattle.json.proofs.Marks.{past}
+use Rattle.names.proofs.Strings.{close-in}
 use Rattle.names.proofs.Runs.{says, string-turn, colon-stops, colon-turn}
 use Rattle.names.proofs.Runs.{open-turn, other-turn, close-turn, close-none}
 

@@ -21,8 +21,7 @@ use Rattle.names.specs.Strings.{spelled}
 use Rattle.names.specs.Order.{Names, pairs}
 use Rattle.names.specs.Names.{Plan, room, State, step, run, answer}
 use Rattle.names.specs.Names.State.{going, stopped, full}
-use Rattle.names.proofs.Strings.{split, past, close-mark}
-use Rattle.names.proofs.Classes.{kind-opens, kind-closes, kind-other}
+use Rattle.json.proofs.Marks.{split, past, close-mark, kind-opens, kind-closes, kind-other}
 
 -- a search that has stopped stays so
 pub run-stopped : (plan : Plan) (l : List ℕ) (p : ℕ) (w : List ℕ) → run plan (stopped l p) w ≡ stopped l p

@@ -9,14 +9,15 @@ use borrow.Author.Tests.{ltb-true, ltb-false, lt-ltb, le-ltb}
 use lib.Dec.{eqb, ltb}
 use lib.ListN.{length, drop, take, getD, set, length-set}
 use lib.Seq.{getD-set-same}
-use Rattle.laws.proofs.Tests.{by-test}
+use Rattle.laws.proofs.Tests.{by-test, and-true}
 use Rattle.json.specs.Depth.Mode.{outside}
 use Rattle.names.specs.declared.Search.the-variants.{Clear, Full}
 use Rattle.json.specs.Strings.{toClose}
 use Rattle.names.specs.Order.{Names, has, pairs}
 use Rattle.names.specs.Names.{room, plan13, run, searchOf}
 use Rattle.names.specs.Names.State.{going}
-use Rattle.names.proofs.Strings.{both-of, past, close-in}
+use Rattle.json.proofs.Marks.{past}
+use Rattle.names.proofs.Strings.{close-in}
 use Rattle.names.proofs.Stacks.{upTo, Good, Below, room-top}
 use Rattle.names.proofs.Stacks.{Agree, agree-set, agree-same, upTo-agree, good-agree, below-agree}
 use Rattle.names.proofs.Stacks.Below.{below-none, below-more}
@@ -92,7 +93,7 @@ bottom (below-more lo n b g e) z = absurd (omega arith)
 
 -- a closing bracket counts where one is open
 pub opened : (b base : ℕ) → ((eqb b 0x5d || eqb b 0x7d) && ltb 0 base) ≡ true → 0 < base
-opened b base e = ltb-true 0 base (both-of (eqb b 0x5d || eqb b 0x7d) (ltb 0 base) e .1)
+opened b base e = ltb-true 0 base (and-true (eqb b 0x5d || eqb b 0x7d) (ltb 0 base) e .1)
 
 module _ {cap : ℕ} {s st ln : List ℕ} {base top last size count i : ℕ}
     (g : Stage cap s st ln base top last size count i) (h : i < length s) where
@@ -164,7 +165,7 @@ module _ {cap : ℕ} {s st ln : List ℕ} {base top last size count i : ℕ}
   pub close-stage : (getD s i 0 ≡ 0x3a → ⊥) → ((eqb (getD s i 0) 0x5d || eqb (getD s i 0) 0x7d) && ltb 0 base) ≡ true
       → Stage cap s st ln (getD st (base - 1) 0) (base - 1) last size count (i + 1)
   close-stage f d =
-      let b = both-of (eqb (getD s i 0) 0x5d || eqb (getD s i 0) 0x7d) (ltb 0 base) d .0 in
+      let b = and-true (eqb (getD s i 0) 0x5d || eqb (getD s i 0) 0x7d) (ltb 0 base) d .0 in
       let p = pop (g .stack .below) (opened (getD s i 0) base d) in
       let e : base - 1 ≡ p .lo + p .n = omega (arith, p .base-is) in
       let k : getD st (base - 1) 0 ≡ p .lo = rw e (p .link) in

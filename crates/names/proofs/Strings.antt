@@ -10,81 +10,14 @@ use borrow.Author.Tests.{ne-eqb, eq-eqb, eqb-true}
 use lib.Dec.{eqb}
 use lib.ListN.{length, drop, take, getD, length-drop, drop-of-length-le}
 use lib.Seq.{drop-cons}
-use Rattle.laws.proofs.Tests.{by-test}
+use Rattle.laws.proofs.Tests.{by-test, and-true, or-false}
 use Rattle.json.specs.Strings.{toClose}
+use Rattle.json.proofs.Marks.{split, past, close-le}
 use Rattle.names.specs.Strings.{same, slashed}
-
--- what is left at a byte is the byte and what is left behind it
-pub split : (s : List ℕ) (i : ℕ) → i < length s → drop i s ≡ getD s i 0 ∷ drop (i + 1) s
-split s i l = rw (add-one, drop-cons s i 0)
-
--- nothing is left at the end
-pub past : (s : List ℕ) (i : ℕ) → length s ≤ i → drop i s ≡ []
-past s i l = drop-of-length-le s {i = i} l
-
--- both tests of a conjunction hold
-pub both-of : (x y : Bool) → (x && y) ≡ true → (x ≡ true) × (y ≡ true)
-both-of true y e = (refl, e)
-both-of false y e = absurd (true≢false (sym e))
-
--- neither test of a disjunction holds
-pub neither-of : (x y : Bool) → (x || y) ≡ false → (x ≡ false) × (y ≡ false)
-neither-of true y e = absurd (true≢false e)
-neither-of false y e = (refl, e)
-
--- the closing mark, ..
-pub close-here : (s : List ℕ) (i : ℕ) → i < length s → getD s i 0 ≡ 0x22 → toClose false (drop i s) ≡ 0
-unfolding toClose
-close-here s i l e = rw (split s i l, e)
-
--- .. any byte but it and a backslash, ..
-pub close-plain : (s : List ℕ) (i : ℕ) → i < length s → (getD s i 0 ≡ 0x22 → ⊥) → (getD s i 0 ≡ 0x5c → ⊥)
-    → toClose false (drop i s) ≡ suc (toClose false (drop (i + 1) s))
-unfolding toClose
-close-plain s i l f g = rw (split s i l, ne-eqb (getD s i 0) 0x22 f, ne-eqb (getD s i 0) 0x5c g)
-
--- .. a backslash with the byte that it hides, ..
-pub close-hide : (s : List ℕ) (i : ℕ) → i + 1 < length s → getD s i 0 ≡ 0x5c
-    → toClose false (drop i s) ≡ suc (suc (toClose false (drop (i + 1 + 1) s)))
-unfolding toClose
-close-hide s i l e = rw (split s i (omega arith), e, split s (i + 1) l)
-
--- .. a backslash at the end, ..
-pub close-last : (s : List ℕ) (i : ℕ) → i + 1 ≡ length s → getD s i 0 ≡ 0x5c → toClose false (drop i s) ≡ 1
-unfolding toClose
-close-last s i l e = rw (split s i (omega arith), e, past s (i + 1) (omega arith))
-
--- .. and the end
-pub close-end : (s : List ℕ) (i : ℕ) → length s ≤ i → toClose false (drop i s) ≡ 0
-unfolding toClose
-close-end s i l = rw (past s i l)
-
--- a string ends in w
-pub close-le : (h : Bool) (w : List ℕ) → toClose h w ≤ length w
-unfolding toClose
-close-le h [] = omega arith
-close-le true (b ∷ w) = let l = close-le false w in omega arith
-close-le false (b ∷ w) =
-    by-test (eqb b 0x22) (λ e. rw e (omega arith)) (λ e. let l = close-le (eqb b 0x5c) w in rw e (omega arith))
 
 -- the end of a string that starts in s is in s
 pub close-in : (s : List ℕ) (at e : ℕ) → at ≤ length s → e ≡ at + toClose false (drop at s) → e ≤ length s
 close-in s at e l k = omega (arith, close-le false (drop at s), length-drop at s)
-
--- where it ends before the end of w, it ends with a mark
-pub close-mark : (h : Bool) (w : List ℕ) → toClose h w < length w
-    → drop (toClose h w) w ≡ 0x22 ∷ drop (suc (toClose h w)) w
-unfolding toClose
-close-mark h [] l = absurd (omega arith)
-close-mark true (b ∷ w) l = close-mark false w (omega arith)
-close-mark false (b ∷ w) l = go (eqb b 0x22) (λ m. close-mark (eqb b 0x5c) w m) refl l where
-  go : (t : Bool)
-      → (toClose (eqb b 0x5c) w < length w
-      → drop (toClose (eqb b 0x5c) w) w ≡ 0x22 ∷ drop (suc (toClose (eqb b 0x5c) w)) w)
-      → eqb b 0x22 ≡ t → toClose false (b ∷ w) < length (b ∷ w)
-      → drop (toClose false (b ∷ w)) (b ∷ w) ≡ 0x22 ∷ drop (suc (toClose false (b ∷ w))) (b ∷ w)
-  go true r e l = let k = eqb-true b 0x22 e in rw (e, k)
-  go false r e l = let m : suc (toClose (eqb b 0x5c) w) < suc (length w) = rw e at l in rw e (r (omega arith))
 
 -- two parts of s that are compared from j on
 module _ (s : List ℕ) (a b n j : ℕ) (l : j < n) (x : a + n ≤ length s) (y : b + n ≤ length s) where
@@ -125,7 +58,7 @@ same-true [] [] e = refl
 same-true [] (b ∷ y) e = absurd (true≢false (sym e))
 same-true (a ∷ x) [] e = absurd (true≢false (sym e))
 same-true (a ∷ x) (b ∷ y) e =
-    let h = both-of (eqb a b) (same x y) e in
+    let h = and-true (eqb a b) (same x y) e in
     let i = eqb-true a b (h .0) in
     let j = same-true x y (h .1) in
     cc
@@ -173,5 +106,5 @@ unfolding slashed
 slashed-take zero w e = refl
 slashed-take (suc n) [] e = refl
 slashed-take (suc n) (b ∷ w) e =
-    let h = neither-of (eqb b 0x5c) (slashed w) e in
+    let h = or-false (eqb b 0x5c) (slashed w) e in
     rw (h .0, slashed-take n w (h .1))

@@ -3,7 +3,6 @@ ghost use mathlib.Core.Path.{_≡_};
 ghost use mathlib.Core.Bool.{false};
 ghost use Prim.Native.Nat.{_+_, _≤_};
 ghost use lib.ListN.{length, drop, take};
-ghost use Rattle.json.specs.Strings.{toClose};
 ghost use Rattle.names.specs.Strings.{slashed, same as sameBytes};
 ghost use Rattle.names.specs.Names.{escapedOf, searchOf, repeatOf};
 
@@ -34,31 +33,6 @@ fn has_backslash(s: &[u8]) -> bool
     seen
 }
 
-// The place of the mark that closes the string whose characters start at `at`; the end where none does.
-fn close(s: &[u8], at: usize) -> usize
-    requires { ⌜ at ≤ length (now s) ⌝ }
-    ensures { λ r. ⌜ r ≡ at + toClose false (drop at (now (s .entry))) ⌝ }
-{
-    let mut i = at;
-    while i < s.len() {
-        let b = s[i];
-        if b == 0x22 {
-            return i;
-        }
-        let next = i + 1;
-        if b == 0x5c {
-            if next < s.len() {
-                i = next + 1;
-            } else {
-                return next;
-            }
-        } else {
-            i = next;
-        }
-    }
-    i
-}
-
 // The names of a text that has a backslash somewhere.
 fn first_with_backslash(s: &[u8]) -> Escaped
     ensures { λ r. ⌜ r ≡ escapedOf (now (s .entry)) ⌝ }
@@ -70,7 +44,7 @@ fn first_with_backslash(s: &[u8]) -> Escaped
         let b = s[i];
         let next = i + 1;
         if b == 0x22 {
-            let e = close(s, next);
+            let e = json::close(s, next);
             last = i;
             size = e - next;
             i = e + 1;
@@ -131,7 +105,7 @@ fn search_names(s: &[u8], starts: &mut [u16], lengths: &mut [u16]) -> Search
         let b = s[i];
         let next = i + 1;
         if b == 0x22 {
-            let e = close(s, next);
+            let e = json::close(s, next);
             last = i;
             size = e - next;
             i = e + 1;

@@ -4,7 +4,7 @@ use Prim.Native.Nat.{_+_, _-_, _≤_, _<_}
 use native.Mathlib.Omega.{arith}
 use mathlib.Core.Path.{_≡_}
 use borrow.Author.Tests.{ltb-true}
-use Rattle.json.proofs.Marks.{both-of}
+use Rattle.laws.proofs.Tests.{and-true}
 use lib.ListN.{length, drop, getD}
 use lib.Dec.{eqb, ltb}
 use mathlib.Core.Bool.{_||_}
@@ -82,7 +82,7 @@ sub-d : tie.Need-sub-d Inv-loop μ-loop
 sub-d c =
     let l = c .before .before .before .before .before in
     let h =
-    both-of
+    and-true
     (eqb (getD (l .before .before .args .s .now) (l .loop .i) 0) 0x5d || eqb
     (getD (l .before .before .args .s .now) (l .loop .i) 0) 0x7d)
     (ltb 0 (l .loop .d)) (c .if5 .taken) in
@@ -95,7 +95,7 @@ loop-again-3 : tie.Need-loop-again-3 Inv-loop μ-loop
 loop-again-3 c =
     let l = c .before .before .before .before .before in
     let g =
-    both-of
+    and-true
     (eqb (getD (l .before .before .args .s .now) (l .loop .i) 0) 0x5d || eqb
     (getD (l .before .before .args .s .now) (l .loop .i) 0) 0x7d)
     (ltb 0 (l .loop .d)) (c .if5 .taken) in

@@ -12,7 +12,7 @@ use Rattle.json.proofs.string.close.Statement.{statement}
 use Rattle.json.proofs.string.close.Tie as tie
 
 abbrev Inv-loop : tie.InvT-loop
-Inv-loop s at i₀ i = (i ≤ length s) × (at + toClose false (drop at s) ≡ i + toClose false (drop i s))
+Inv-loop s at i₀ i = at + toClose false (drop at s) ≡ i + toClose false (drop i s)
 
 abbrev μ-loop : tie.MeasureT-loop
 μ-loop s at i₀ i = length s - i
@@ -27,7 +27,7 @@ returns : tie.Need-returns Inv-loop μ-loop
 returns c =
     let l = c .before .before .before in
     let h = close-here (l .before .args .s .now) (l .loop .i) (omega arith) (c .if1 .taken) in
-    omega (arith, h, l .loop .inv .1)
+    omega (arith, h, l .loop .inv)
 
 add-next : tie.Need-add-next Inv-loop μ-loop
 add-next c = omega arith
@@ -42,13 +42,13 @@ loop-again : tie.Need-loop-again Inv-loop μ-loop
 loop-again c =
     let l = c .before .before .before .before .before in
     let h = close-hide (l .before .args .s .now) (l .loop .i) (omega arith) (c .before .if2 .taken) in
-    (omega arith, omega (arith, h, l .loop .inv .1))
+    omega (arith, h, l .loop .inv)
 
 returns-2 : tie.Need-returns-2 Inv-loop μ-loop
 returns-2 c =
     let l = c .before .before .before .before .before in
     let h = close-last (l .before .args .s .now) (l .loop .i) (omega arith) (c .before .if2 .taken) in
-    omega (arith, h, l .loop .inv .1)
+    omega (arith, h, l .loop .inv)
 
 loop-less-2 : tie.Need-loop-less-2 Inv-loop μ-loop
 loop-less-2 c = omega arith
@@ -57,12 +57,12 @@ loop-again-2 : tie.Need-loop-again-2 Inv-loop μ-loop
 loop-again-2 c =
     let l = c .before .before .before .before in
     let h = close-plain (l .before .args .s .now) (l .loop .i) (omega arith) (c .before .if1 .left) (c .if2 .left) in
-    (omega arith, omega (arith, h, l .loop .inv .1))
+    omega (arith, h, l .loop .inv)
 
 returns-3 : tie.Need-returns-3 Inv-loop μ-loop
 returns-3 c =
     let l = c .before in
-    let h = close-end (l .before .args .s .now) (l .loop .i) (omega arith) in omega (arith, h, l .loop .inv .1)
+    let h = close-end (l .before .args .s .now) (l .loop .i) (omega arith) in omega (arith, h, l .loop .inv)
 
 pub close-spec : {M : Type 1} → statement M
 close-spec =
