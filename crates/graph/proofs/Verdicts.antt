@@ -10,8 +10,9 @@ use lib.Dec.{ltb}
 use Rattle.laws.specs.Search.{anyBelow}
 use Rattle.laws.proofs.Tests.{by-test}
 use Rattle.laws.proofs.Search.{Least, least-says, any-no, any-at}
+use Rattle.laws.specs.Verdict.{Smallest}
 use Rattle.graph.specs.Graph.{graphBroken, graphItems, graphItem, graphRule, graphFault}
-use Rattle.graph.specs.Rules.{Broken, Verdict, Answer}
+use Rattle.graph.specs.Rules.{Broken, Answer}
 use Rattle.graph.specs.Rules.Answer.{sound, faulty}
 use Rattle.graph.proofs.Reach.{Linked}
 use Rattle.graph.proofs.Tests.{Holds, linked, test-broken, broken-test}
@@ -40,18 +41,18 @@ module _ (kids roots : List (List ℕ)) where
       true≢false (sym (t .holds) ∙ below-holds (n - 41) (omega (arith, t .from)) i (t .item))
 
   -- it is broken, by its item first
-  verdict : rule < 6 → Verdict kids roots (41 + rule) (graphItem kids roots rule)
+  verdict : rule < 6 → Smallest (Broken kids roots) (41 + rule) (graphItem kids roots rule)
   verdict l =
       let a = any-at (graphBroken kids roots rule) (graphItems kids roots rule) (says .holds l) in
       record {
-        breaks = test-broken kids roots rule (graphItem kids roots rule) below-linked l (a .0) (a .1);
-        first = λ i h b.
+        broken = test-broken kids roots rule (graphItem kids roots rule) below-linked l (a .0) (a .1);
+        items = λ i h b.
             (let t = broken-test kids roots (λ h. below-linked (omega arith)) b in
             let e : (41 + rule) - 41 ≡ rule = omega arith in
             true≢false
             (sym (subst (λ (k : ℕ). graphBroken kids roots k i ≡ true) e (t .holds))
             ∙ least-says (graphBroken kids roots rule) (graphItems kids roots rule) .fails i h));
-        smallest = below-sound;
+        rules = below-sound;
       }
 
   -- so the fault is the answer

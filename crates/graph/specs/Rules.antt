@@ -3,6 +3,7 @@ use Prim.Native.Nat.{ℕ, _<_, _≤_}
 use mathlib.Core.Path.{_≡_}
 use mathlib.Core.List.{List, []}
 use lib.ListN.{getD, length}
+use Rattle.laws.specs.Verdict.{Smallest}
 use Rattle.graph.specs.Graph.{joined}
 use Rattle.graph.specs.declared.verdict.Fault.{Fault}
 
@@ -38,14 +39,8 @@ pub data Broken (kids roots : List (List ℕ)) : ℕ → ℕ → Type 0 where
   -- a listed root has a parent
   root-below : (scene x p : ℕ) → Child roots scene x → Child kids p x → Broken kids roots 46 scene
 
--- the rule is broken by the item and by no smaller one, and no smaller rule is broken
-pub record Verdict (kids roots : List (List ℕ)) (number item : ℕ) : Type 0 where
-  pub breaks : Broken kids roots number item
-  pub first : (i : ℕ) → i < item → Broken kids roots number i → ⊥
-  pub smallest : (n i : ℕ) → n < number → Broken kids roots n i → ⊥
-
--- what the answer is: the verdict where a rule is broken, 0 and 0 where none is
+-- what the answer is: the smallest rule broken with its smallest item, 0 and 0 where none is
 pub data Answer (kids roots : List (List ℕ)) : Fault → Type 0 where
   sound : ((n i : ℕ) → Broken kids roots n i → ⊥) → Answer kids roots (record { number = 0; item = 0 })
-  faulty : (number item : ℕ) → Verdict kids roots number item
+  faulty : (number item : ℕ) → Smallest (Broken kids roots) number item
       → Answer kids roots (record { number = number; item = item })
