@@ -1,5 +1,4 @@
 pub mod Booleans
-pub mod ListLaws
 pub mod Counting
 pub mod Climb
 pub mod Reach

@@ -10,11 +10,11 @@ use lib.Dec.{ltb, leb, eqb}
 use lib.ListN.{getD, set, length, length-set, length-replicate, getD-replicate}
 use lib.Seq.{getD-set-same, getD-set-other}
 use Rattle.laws.specs.Search.{least}
-use Rattle.laws.proofs.Tests.{by-test}
+use Rattle.laws.proofs.Tests.{by-test, or-false}
 use Rattle.laws.proofs.Search.{least-says}
 use Rattle.graph.specs.Graph.{times, anyIn, repeats}
 use Rattle.graph.specs.Stream.{feed, earlier, upIn, rootOf, Marked, rootStep, unmarked, rootsFound}
-use Rattle.graph.proofs.Booleans.{or-false, or-swap, or-sort}
+use Rattle.graph.proofs.Booleans.{or-swap, or-sort}
 use Rattle.graph.proofs.Feeding.{earlier-false, earlier-or, feed-test, feed-keep, feedAll-test}
 
 -- every entry of the list is below n

@@ -11,12 +11,12 @@ use native.Mathlib.Omega.{arith}
 use borrow.Author.Tests.{ltb-true, ltb-false, lt-ltb}
 use lib.Dec.{ltb}
 use lib.Seq.{getD-at}
-use Rattle.laws.proofs.Tests.{by-test}
+use Rattle.laws.proofs.Tests.{by-test, or-false}
 use lib.ListN.{getD, length, length-append, List·getD-append, take, length-take, replicate, length-replicate}
 use Rattle.laws.proofs.Search.{any-no, any-yes}
 use Rattle.graph.specs.Packing.{misplaced, packedLists, listAt, PlacedAt}
 use Rattle.graph.specs.Stream.{feed, feedAll}
-use Rattle.graph.proofs.Booleans.{or-false, or-true}
+use Rattle.graph.proofs.Booleans.{or-true}
 use Rattle.graph.proofs.Feeding.{feedAll-more}
 
 -- the count is within the capacity and the records

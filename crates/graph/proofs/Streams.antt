@@ -15,7 +15,7 @@ use Rattle.graph.specs.Graph.{times, joined, anyIn, parentOf, endless, g
 use Rattle.graph.specs.declared.roots.Roots.{Roots}
 use Rattle.graph.specs.Stream.{feedAll, linkPast, upIn, endlessIn, firstTwice, firstEndless, rootsVerdict, verdictOf}
 use Rattle.graph.specs.Stream.{childrenPast, childrenParents, rootStep, marked, unmarked, rootsFound, streamFault}
-use Rattle.graph.proofs.ListLaws.{getD-any}
+use Rattle.laws.proofs.Lists.{getD-any}
 use Rattle.graph.proofs.Counting.{times-in, times-joined}
 use Rattle.graph.proofs.Climb.{climb-same}
 use Rattle.graph.proofs.Reach.{Linked, stays, parent-none}

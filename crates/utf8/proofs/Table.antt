@@ -8,12 +8,12 @@ use mathlib.Core.List.{List}
 use borrow.Author.Tests.{leb-true, le-leb, lt-leb, ne-eqb}
 use lib.Dec.{eqb, leb}
 use lib.ListN.{length, drop}
-use Rattle.laws.proofs.Tests.{by-test}
+use Rattle.laws.proofs.Tests.{by-test, and-true, or-elim}
 use Rattle.utf8.specs.Rfc3629.{In, Tail, Char}
 use Rattle.utf8.specs.Rfc3629.Char.{utf8-1, utf8-2, utf8-3-e0, utf8-3-e1, utf8-3-ed, utf8-3-ee}
 use Rattle.utf8.specs.Rfc3629.Char.{utf8-4-f0, utf8-4-f1, utf8-4-f4}
 use Rattle.utf8.specs.Utf8.{byteAt, within, tail, starts2, starts3, starts4, widthOf, widthAt}
-use Rattle.utf8.proofs.Tests.{both, either, in-yes, in-above, in-true, row, row-at, next, two, three, four}
+use Rattle.utf8.proofs.Tests.{in-yes, in-above, in-true, row, row-at, next, two, three, four}
 
 -- w starts with a character of n bytes, and then r
 pub record Wide (w r : List ℕ) (n : ℕ) : Type 0 where
@@ -98,9 +98,9 @@ rows3 a b e p q r s =
     let x = eqb a 0xe0 && within 0xa0 0xbf b in
     let y = within 0xe1 0xec a && tail b in
     let z = eqb a 0xed && within 0x80 0x9f b in
-    either (x || y || z) _ e
-    (λ e. either (x || y) _ e
-    (λ e. either x _ e
+    or-elim (x || y || z) _ e
+    (λ e. or-elim (x || y) _ e
+    (λ e. or-elim x _ e
     (λ e. let h = row-at 0xe0 0xa0 0xbf a b e in p (h .0) (h .1))
     (λ e. let h = row 0xe1 0xec a b e in q (h .0) (h .1)))
     (λ e. let h = row-at 0xed 0x80 0x9f a b e in r (h .0) (h .1)))
@@ -112,8 +112,8 @@ rows4 : {P : Type 0} (a b : ℕ) → starts4 a b ≡ true → (a ≡ 0xf0 → In
 rows4 a b e p q r =
     let x = eqb a 0xf0 && within 0x90 0xbf b in
     let y = within 0xf1 0xf3 a && tail b in
-    either (x || y) _ e
-    (λ e. either x _ e
+    or-elim (x || y) _ e
+    (λ e. or-elim x _ e
     (λ e. let h = row-at 0xf0 0x90 0xbf a b e in p (h .0) (h .1))
     (λ e. let h = row 0xf1 0xf3 a b e in q (h .0) (h .1)))
     (λ e. let h = row-at 0xf4 0x80 0x8f a b e in r (h .0) (h .1))
@@ -160,12 +160,12 @@ said w =
     (λ e. rw (f, e) (char-said 2 (char-2 w e) (rw (f, e) refl)))
     (λ g. by-test (starts3 a b && tail c)
     (λ e.
-    let h = both (starts3 a b) _ e in
+    let h = and-true (starts3 a b) _ e in
     rw (f, g, e) (char-said 3 (char-3 w (h .0) (in-true 0x80 0xbf c (h .1))) (rw (f, g, e) refl)))
     (λ i. by-test (starts4 a b && tail c && tail d)
     (λ e.
-    let h = both (starts4 a b && tail c) _ e in
-    let k = both (starts4 a b) _ (h .0) in
+    let h = and-true (starts4 a b && tail c) _ e in
+    let k = and-true (starts4 a b) _ (h .0) in
     rw (f, g, i, e)
     (char-said 4 (char-4 w (k .0) (in-true 0x80 0xbf c (k .1)) (in-true 0x80 0xbf d (h .1))) (rw (f, g, i, e) refl)))
     (λ e. rw (f, g, i, e) (none-said (rw (f, g, i, e) refl))))))

@@ -8,18 +8,9 @@ use mathlib.Core.List.{List, [], _∷_}
 use borrow.Author.Tests.{leb-true, eqb-true, le-leb, lt-leb}
 use lib.Dec.{eqb, leb}
 use lib.ListN.{length, drop, getD}
+use Rattle.laws.proofs.Tests.{and-true}
 use Rattle.utf8.specs.Rfc3629.{In, Tail}
 use Rattle.utf8.specs.Utf8.{byteAt, within, tail}
-
--- both tests of a conjunction hold
-pub both : (a b : Bool) → (a && b) ≡ true → (a ≡ true) × (b ≡ true)
-both true b e = (refl, e)
-both false b e = absurd (true≢false (sym e))
-
--- one of the tests of a disjunction holds
-pub either : {P : Type 0} (a b : Bool) → (a || b) ≡ true → (a ≡ true → P) → (b ≡ true → P) → P
-either true b e f g = f refl
-either false b e f g = g e
 
 -- a byte in a range passes its test, ..
 pub in-yes : {lo hi b : ℕ} → In lo hi b → within lo hi b ≡ true
@@ -37,21 +28,15 @@ in-above lo hi b h = go (leb lo b) where
 -- .. and one that passes is in the range
 pub in-true : (lo hi b : ℕ) → within lo hi b ≡ true → In lo hi b
 unfolding within
-in-true lo hi b e = let h = both (leb lo b) (leb b hi) e in (leb-true lo b (h .0), leb-true b hi (h .1))
+in-true lo hi b e = let h = and-true (leb lo b) (leb b hi) e in (leb-true lo b (h .0), leb-true b hi (h .1))
 
 -- a row of the table whose first byte is a range
 pub row : (lo hi a b : ℕ) → (within lo hi a && tail b) ≡ true → In lo hi a × Tail b
-row lo hi a b e = let h = both (within lo hi a) (tail b) e in (in-true lo hi a (h .0), in-true 0x80 0xbf b (h .1))
+row lo hi a b e = let h = and-true (within lo hi a) (tail b) e in (in-true lo hi a (h .0), in-true 0x80 0xbf b (h .1))
 
 -- a row of the table whose first byte is given
 pub row-at : (k lo hi a b : ℕ) → (eqb a k && within lo hi b) ≡ true → (a ≡ k) × In lo hi b
-row-at k lo hi a b e = let h = both (eqb a k) (within lo hi b) e in (eqb-true a k (h .0), in-true lo hi b (h .1))
-
--- the default of a byte that is there does not matter
-pub default : (s : List ℕ) (i d e : ℕ) → i < length s → getD s i d ≡ getD s i e
-default [] i d e h = absurd (omega arith)
-default (a ∷ s) zero d e h = refl
-default (a ∷ s) (suc i) d e h = default s i d e (omega arith)
+row-at k lo hi a b e = let h = and-true (eqb a k) (within lo hi b) e in (eqb-true a k (h .0), in-true lo hi b (h .1))
 
 -- a byte below 256 is there
 pub next : (w : List ℕ) (i : ℕ) → byteAt w i < 256 → drop i w ≡ byteAt w i ∷ drop (suc i) w

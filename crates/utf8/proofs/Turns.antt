@@ -9,7 +9,7 @@ use lib.ListN.{length, drop, getD, length-drop, drop-of-length-le}
 use lib.Seq.{drop-drop, getD-drop}
 use Rattle.utf8.specs.Utf8.{byteAt, widthOf, widthAt, wholeFrom, wholeOf, utf8Of}
 use Rattle.utf8.specs.declared.Utf8.the-variants.{Whole, Ends}
-use Rattle.utf8.proofs.Tests.{default}
+use Rattle.laws.proofs.Lists.{getD-any}
 use Rattle.utf8.proofs.Table.{Said, said}
 use Rattle.utf8.proofs.Table.Said.{said-char, said-none}
 use Rattle.utf8.proofs.Whole.{whole-more, whole-none}
@@ -44,7 +44,7 @@ wide-turn s i n h e f = go n (rw (width-drop s i ∙ sym e) at (said (drop i s))
 pub plain-turn : (s : List ℕ) (i : ℕ) → i < length s → getD s i 0 < 0x80 → Past s i → Past s (i + 1)
 unfolding widthOf
 plain-turn s i l b h =
-    let e = default s i 0 256 l in
+    let e = getD-any s i 0 256 l in
     wide-turn s i 1 h (rw (le-leb (byteAt s i) 0x7f (omega arith))) (λ z. omega arith)
 
 -- no character at i

@@ -4,7 +4,7 @@ use native.Mathlib.Omega.{arith}
 use mathlib.Core.Path.{sym}
 use lib.ListN.{List·getD-eq-default}
 use borrow.Author.Needs.{needs}
-use Rattle.utf8.proofs.Tests.{default}
+use Rattle.laws.proofs.Lists.{getD-any}
 use Rattle.utf8.proofs.peek.Statement.{statement}
 use Rattle.utf8.proofs.peek.Tie as tie
 
@@ -15,7 +15,7 @@ cast-result : tie.Need-cast-result
 cast-result c = omega (arith, c .shared-slice-known .given (c .before .before .args .at))
 
 returns : tie.Need-returns
-returns c = let a = c .before .before .args in default (a .s .now) (a .at) 0 256 (omega arith)
+returns c = let a = c .before .before .args in getD-any (a .s .now) (a .at) 0 256 (omega arith)
 
 returns-2 : tie.Need-returns-2
 returns-2 c = let a = c .before .args in sym (List·getD-eq-default (a .s .now) 256 {n = a .at} (omega arith))

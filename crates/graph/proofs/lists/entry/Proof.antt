@@ -3,7 +3,7 @@ use mathlib.Core.Path.{sym}
 use native.Mathlib.Omega.{arith}
 use borrow.Author.Needs.{needs}
 use lib.ListN.{List·getD-eq-default}
-use Rattle.graph.proofs.ListLaws.{getD-any}
+use Rattle.laws.proofs.Lists.{getD-any}
 use Rattle.graph.proofs.lists.entry.Statement.{statement}
 use Rattle.graph.proofs.lists.entry.Tie as tie
 
