@@ -10,4 +10,5 @@ mod Searches
 mod Computed
 mod Located
 mod Tops
+mod Examples
 pub mod Navigation

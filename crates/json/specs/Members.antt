@@ -75,7 +75,8 @@ unfoldable pub pastOf : List ℕ → List ℕ → ℕ
 pastOf s w = given 0 (λ x. given 0 (λ ms. placeOf s (x .1)) (objectOf (some (x .0)))) (valueAt 32 w)
 
 -- eight searches in one object, and the place past it
-unfoldable pub gatherOf : List ℕ → List ℕ → List ℕ → List ℕ → List ℕ → List ℕ → List ℕ → List ℕ → List ℕ → List ℕ → Places
+unfoldable pub gatherOf : List ℕ → List ℕ → List ℕ → List ℕ → List ℕ → List ℕ → List ℕ → List ℕ → List ℕ → List ℕ →
+    Places
 gatherOf s w ka kb kc kd ke kf kg kh =
     record {
       a = foundOf s ka w;
@@ -94,7 +95,8 @@ gatherOf s w ka kb kc kd ke kf kg kh =
 -- among the members w, the first that is named k has its value at v
 pub data Finds (k : List ℕ) : List ℕ → List ℕ → Type 0 where
   finds-here : {w l v : List ℕ} → Name w l v → Not IsWs v → Quoted k w → Finds k w v
-  finds-on : {w l u c v : List ℕ} {j : Json} → Name w l u → (Quoted k w → ⊥) → Leads 31 u j c → Finds k c v → Finds k w v
+  finds-on : {w l u c v : List ℕ} {j : Json} → Name w l u → (Quoted k w → ⊥) → Leads 31 u j c → Finds k c v →
+      Finds k w v
 
 -- the place of the value that the first member named k has, in the object that w starts with
 pub data FoundTo (s w k : List ℕ) : ℕ → Type 0 where
@@ -124,8 +126,8 @@ pub data FoundTree (s : List ℕ) : Option Json → ℕ → Type 0 where
   tree-at : {q : ℕ} {j : Json} → 0 < q → q ≤ length s → Stands (drop q s) j → FoundTree s (some j) q
   tree-absent : FoundTree s none 0
 
--- the eight places, and the place past the object that w starts with, where the tree is j
-pub record GatheredTree (s w : List ℕ) (j : Json) (ka kb kc kd ke kf kg kh : List ℕ) (r : Places) : Type 0 where
+-- the eight places, where the tree is j
+pub record GatheredTree (s : List ℕ) (j : Json) (ka kb kc kd ke kf kg kh : List ℕ) (r : Places) : Type 0 where
   pub fa : FoundTree s (fieldOf ka j) (r .a)
   pub fb : FoundTree s (fieldOf kb j) (r .b)
   pub fc : FoundTree s (fieldOf kc j) (r .c)
@@ -134,4 +136,3 @@ pub record GatheredTree (s w : List ℕ) (j : Json) (ka kb kc kd ke kf kg kh : L
   pub ff : FoundTree s (fieldOf kf j) (r .f)
   pub fg : FoundTree s (fieldOf kg j) (r .g)
   pub fh : FoundTree s (fieldOf kh j) (r .h)
-  pub end : PastTo s w (r .past)

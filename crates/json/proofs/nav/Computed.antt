@@ -1,36 +1,27 @@
 -- The steps and places that are computed mean what they should.
 -- Assumes nothing.
-use Prim.Native.Nat.{ℕ, zero, suc, _-_, _≤_, _<_}
-use native.Mathlib.Omega.{arith}
-use mathlib.Core.Path.{_≡_, refl, sym}
-use mathlib.Core.Bool.{true, false, cond}
+use Prim.Native.Nat.{ℕ, _-_, _<_}
+use mathlib.Core.Path.{refl, sym}
 use mathlib.Core.List.{List, [], _∷_, _++_}
 use mathlib.Core.Option.{Option, some, none}
 use lib.Dec.{eqb}
-use lib.ListN.{length, drop, take, take-append-drop, length-drop}
+use lib.ListN.{drop, take, take-append-drop}
 use borrow.Author.Tests.{eqb-true, eqb-false}
 use Rattle.laws.proofs.Tests.{by-test}
-use Rattle.json.specs.declared.nav.Step.{Step}
-use Rattle.json.specs.declared.nav.Step.the-variants.{More, End, Bad}
-use Rattle.json.specs.Tree.{Json, Fields, depth}
-use Rattle.json.specs.Grammar.{IsWs, Ws, Chars, Name, Value}
-use Rattle.json.specs.Grammar.Name.{name}
-use Rattle.json.specs.Grammar.Scalar.{sc-string}
-use Rattle.json.specs.Grammar.Value.{val-scalar}
-use Rattle.json.specs.Faults.{Fault, Not, Is, NoValue}
+use Rattle.json.specs.declared.nav.Step.the-variants.{Bad}
+use Rattle.json.specs.Tree.{Json}
+use Rattle.json.specs.Grammar.{IsWs, Ws}
+use Rattle.json.specs.Faults.{Fault, Not, NoValue}
 use Rattle.json.specs.Faults.Not.{not-end, not-head}
-use Rattle.json.specs.Faults.Stop.{stop-string, stop-object}
-use Rattle.json.specs.Lengths.{ws-shorter, name-shorter}
 use Rattle.json.specs.Scans.{ValueOk}
 use Rattle.json.specs.Parse.{Got, front-run, ws-run, past-ws, neither}
 use Rattle.json.specs.Parse.Got.{got, lost}
-use Rattle.json.specs.Places.{Stands, placeOf, given, valueAt, read, objectOf}
+use Rattle.json.specs.Places.{given, valueAt, read}
 use Rattle.json.specs.Steps.{OpenTo, NextTo, AfterTo, behindOf, afterOf, nextOf, insideOf, openOf}
 use Rattle.json.specs.Steps.Opens.{opens}
 use Rattle.json.specs.Steps.OpenTo.{open-more, open-end, open-bad}
 use Rattle.json.specs.Steps.AfterTo.{after-more, after-end, after-bad}
 use Rattle.json.proofs.Laws.{is-same}
-use Rattle.json.proofs.Unique.{tails}
 use Rattle.json.proofs.Cuts.{Cut, none as none-read, one, ws-reads, value-reads, _then_}
 use Rattle.json.proofs.Tops.{place}
 use Rattle.json.proofs.nav.Steps.{next-after, next-none}
@@ -88,7 +79,8 @@ next-is {s = s} {w = w} {n = n} {c = c} h k =
     (λ f r m. next-none m)
 
 -- the step from past a bracket and white space
-inside-is : {s w : List ℕ} {b c : ℕ} (v : List ℕ) → Ws w v → Not IsWs v → Cut s v → OpenTo s (b ∷ w) b c (insideOf c s v)
+inside-is : {s w : List ℕ} {b c : ℕ} (v : List ℕ) → Ws w v → Not IsWs v → Cut s v → OpenTo s (b ∷ w) b c
+    (insideOf c s v)
 unfolding insideOf
 inside-is {s = s} [] x n k = let p = place s [] k in open-more (p .0) (rw (p .1) (opens x n not-end))
 inside-is {s = s} {c = c} (a ∷ v) x n k =

@@ -2,26 +2,21 @@
 -- Assumes nothing.
 use Prim.Native.Nat.{ℕ, _≤_}
 use native.Mathlib.Omega.{arith}
-use mathlib.Core.Path.{_≡_, refl, sym}
-use mathlib.Core.Bool.{Bool, false}
+use mathlib.Core.Path.{_≡_, refl}
 use mathlib.Core.List.{List, _∷_}
-use lib.ListN.{length, drop}
-use Rattle.json.specs.declared.nav.Step.{Step}
-use Rattle.json.specs.declared.nav.Step.the-variants.{More, End, Bad}
 use Rattle.json.specs.Tree.{Json, Values, depth, depths}
 use Rattle.json.specs.Grammar.{Ws, Value, Elements}
-use Rattle.json.specs.Grammar.Scalar.{sc-null, sc-true, sc-false, sc-number, sc-string}
-use Rattle.json.specs.Grammar.Value.{val-scalar, val-array0, val-array, val-object0, val-object}
+use Rattle.json.specs.Grammar.Value.{val-scalar, val-array0, val-array}
 use Rattle.json.specs.Grammar.Elements.{elem-last, elem-more}
 use Rattle.json.specs.Faults.{Not, Is}
 use Rattle.json.specs.Places.{Stands, Walk}
-use Rattle.json.specs.Steps.{Opens, OpenTo, Leads, Ends, NextTo, AfterTo}
+use Rattle.json.specs.Steps.{Opens, Leads, Ends}
 use Rattle.json.specs.Steps.Opens.{opens}
 use Rattle.json.specs.Steps.Leads.{leads}
 use Rattle.json.specs.Steps.Ends.{ends}
 use Rattle.json.proofs.Unique.{solid, ws-unique, elements-no-ws, scalar-bracket, no-elements, at-bracket, at-comma}
 use Rattle.json.proofs.Excluded.{not-is}
-use Rattle.json.proofs.nav.Steps.{leads-unique, leads-bracket, opened, empty, shut, led, ended, lost}
+use Rattle.json.proofs.nav.Steps.{leads-unique, leads-bracket}
 
 -- an element, and a comma behind it
 pub went-on : {w v : List ℕ} {i : Json} {js : Values} → Leads 32 w i v → Walk w js →

@@ -2,10 +2,12 @@
 -- Assumes nothing.
 use Prim.Native.Nat.{ℕ, _≤_}
 use native.Mathlib.Omega.{arith}
-use mathlib.Core.Path.{_≡_, refl}
+use mathlib.Core.Path.{_≡_, refl, _∙_}
+use mathlib.Core.Bool.{cond, _&&_}
 use mathlib.Core.List.{List}
+use lib.Dec.{leb}
 use borrow.Author.Tests.{ne-eqb, le-leb}
-use Rattle.json.specs.declared.nav.Kind.the-variants.{Number}
+use Rattle.json.specs.declared.nav.Kind.the-variants.{Number, Other}
 use Rattle.json.specs.Tree.{Json}
 use Rattle.json.specs.Grammar.{Value}
 use Rattle.json.specs.Grammar.Int.{int-zero, int-more}
@@ -16,21 +18,26 @@ use Rattle.json.specs.Grammar.Value.{val-scalar, val-array0, val-array, 
 use Rattle.json.specs.Answer.{first}
 use Rattle.json.specs.Kinds.{kindOf, treeKind}
 
+-- a byte that no value but a number starts with, or none
+pub plain-kind : (b : ℕ) → (b ≡ 0x7b → ⊥) → (b ≡ 0x5b → ⊥) → (b ≡ 0x22 → ⊥) → (b ≡ 0x74 → ⊥) → (b ≡ 0x66 → ⊥) →
+    (b ≡ 0x6e → ⊥) → (b ≡ 0x2d → ⊥) → kindOf b ≡ cond (leb 0x30 b && leb b 0x39) Number Other
+unfolding kindOf
+plain-kind b f g h i j k l =
+    rw (
+      ne-eqb b 0x7b f,
+      ne-eqb b 0x5b g,
+      ne-eqb b 0x22 h,
+      ne-eqb b 0x74 i,
+      ne-eqb b 0x66 j,
+      ne-eqb b 0x6e k,
+      ne-eqb b 0x2d l,
+    )
+
 -- a digit starts a number
 digit-kind : (d : ℕ) → 0x31 ≤ d → d ≤ 0x39 → kindOf d ≡ Number
-unfolding kindOf
 digit-kind d a b =
-    rw (
-      ne-eqb d 0x7b (omega arith),
-      ne-eqb d 0x5b (omega arith),
-      ne-eqb d 0x22 (omega arith),
-      ne-eqb d 0x74 (omega arith),
-      ne-eqb d 0x66 (omega arith),
-      ne-eqb d 0x6e (omega arith),
-      ne-eqb d 0x2d (omega arith),
-      le-leb 0x30 d (omega arith),
-      le-leb d 0x39 b,
-    )
+    plain-kind d (λ e. omega arith) (λ e. omega arith) (λ e. omega arith) (λ e. omega arith) (λ e. omega arith)
+    (λ e. omega arith) (λ e. omega arith) ∙ rw (le-leb 0x30 d (omega arith), le-leb d 0x39 b)
 
 -- the first byte decides the kind
 pub value-kind : {w a : List ℕ} {j : Json} → Value w j a → kindOf (first w) ≡ treeKind j

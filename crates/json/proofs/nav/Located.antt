@@ -13,17 +13,15 @@ use Rattle.laws.proofs.Tests.{by-test}
 use Rattle.json.specs.declared.nav.Step.{Step}
 use Rattle.json.specs.declared.nav.Step.the-variants.{More, End, Bad}
 use Rattle.json.specs.Tree.{Json, Fields, depth}
-use Rattle.json.specs.Grammar.{IsWs, Ws, Chars, Name, Value}
+use Rattle.json.specs.Grammar.{IsWs, Ws, Name, Value}
 use Rattle.json.specs.Grammar.Name.{name}
 use Rattle.json.specs.Grammar.Scalar.{sc-string}
 use Rattle.json.specs.Grammar.Value.{val-scalar}
-use Rattle.json.specs.Faults.{Fault, Not, NoValue, Stop}
-use Rattle.json.specs.Faults.Not.{not-end, not-head}
+use Rattle.json.specs.Faults.{Not, Stop}
 use Rattle.json.specs.Faults.Stop.{stop-string, stop-object}
-use Rattle.json.specs.Lengths.{name-shorter, value-shorter, ws-shorter}
-use Rattle.json.specs.Numbers.{number-not}
+use Rattle.json.specs.Lengths.{name-shorter, value-shorter}
 use Rattle.json.specs.Parse.{past-ws}
-use Rattle.json.specs.Places.{placeOf, given, valueAt, objectOf}
+use Rattle.json.specs.Places.{placeOf, given, objectOf}
 use Rattle.json.specs.Steps.{OpenTo, NextTo, nextOf, openOf}
 use Rattle.json.specs.Steps.OpenTo.{open-more, open-end, open-bad}
 use Rattle.json.specs.Steps.NextTo.{next-more, next-end, next-bad}
@@ -33,8 +31,7 @@ use Rattle.json.specs.Members.Finds.{finds-here, finds-on}
 use Rattle.json.specs.Members.PastTo.{past-at, past-none}
 use Rattle.json.specs.Gathers.{FindTo}
 use Rattle.json.specs.Gathers.FindTo.{find-at, find-absent}
-use Rattle.json.proofs.Laws.{later}
-use Rattle.json.proofs.Unique.{solid, heads, tails, ws-unique, value-unique}
+use Rattle.json.proofs.Unique.{solid, heads, ws-unique, value-unique}
 use Rattle.json.proofs.Excluded.{no-value}
 use Rattle.json.proofs.Cuts.{Cut, value-reads, name-reads, _then_}
 use Rattle.json.proofs.Tops.{place}
@@ -60,7 +57,8 @@ at-name w P f g =
     at-value 0 w (λ o. P (given none namedBy o)) (λ r k. by (k .0) (k .1) (k .2))
     (λ e r m. g (λ l v n. let x = string-name n in wrong-none (no-value m (x .2) stop-string) (omega arith)))
   where
-    other : {j : Json} {r : List ℕ} → Value w j r → Stop j r → ((l : List ℕ) → j ≡ Json.string l → ⊥) → (l v : List ℕ) → Name w l v → ⊥
+    other : {j : Json} {r : List ℕ} → Value w j r → Stop j r → ((l : List ℕ) → j ≡ Json.string l → ⊥) →
+        (l v : List ℕ) → Name w l v → ⊥
     other v s d l u n = let x = string-name n in d l (value-unique v s (x .2) stop-string .0)
 
     no-colon : {l r u : List ℕ} → Value w (Json.string l) r → Ws r u → Not IsWs u → ((b : List ℕ) → u ≡ 0x3a ∷ b → ⊥) →
@@ -98,6 +96,7 @@ finds-shorter : {k w v : List ℕ} → Finds k w v → length v < length w
 finds-shorter (finds-here n m q) = name-shorter n
 finds-shorter (finds-on n q x f) = omega (arith, name-shorter n, leads-shorter x, finds-shorter f)
 
+-- and a name is at the front
 finds-name : {k w v : List ℕ} → Finds k w v → (l u : List ℕ) × Name w l u
 finds-name (finds-here n m q) = (_, _, n)
 finds-name (finds-on n q x f) = (_, _, n)
@@ -117,11 +116,14 @@ unfolding findOf
 find-is zero w l c = find-absent (λ v f. omega (arith, finds-shorter f))
 find-is {s = s} {k = k} (suc n) w l c =
     at-name w
-    (λ o. FindTo s w k (given 0 (λ x. cond (spells k (x .0)) (placeOf s (x .1)) (onward (λ v. findOf n s k v) s (nextOf 31 0x7d s (x .1)))) o))
+    (λ o. FindTo s w k (given 0 (λ x. cond (spells k (x .0)) (placeOf s (x .1))
+    (onward (λ v. findOf n s k v) s (nextOf 31 0x7d s (x .1)))) o))
     (λ i v h m. let d = c then name-reads h .cut in let p = place s v d in
     by-test (spells k i)
-    (λ e. rw e (find-at {q = placeOf s v} (omega (arith, name-shorter h, cut-shorter c)) (p .0) (rw (p .1) (finds-here h m (name-quoted h e)))))
-    (λ e. rw e (onward-is h m (λ q. true≢false (sym (quoted-name h q) ∙ e)) l (λ u b d. find-is n u b d) (nextOf 31 0x7d s v) (next-is (omega arith) d))))
+    (λ e. rw e (find-at {q = placeOf s v} (omega (arith, name-shorter h, cut-shorter c)) (p .0)
+    (rw (p .1) (finds-here h m (name-quoted h e)))))
+    (λ e. rw e (onward-is h m (λ q. true≢false (sym (quoted-name h q) ∙ e)) l (λ u b d. find-is n u b d)
+    (nextOf 31 0x7d s v) (next-is (omega arith) d))))
     (λ f. find-absent (λ v y. let z = finds-name y in f (z .0) (z .1) (z .2)))
 
 -- the search in an object

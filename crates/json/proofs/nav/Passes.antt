@@ -8,11 +8,10 @@ use lib.ListN.{length, drop}
 use Rattle.json.specs.declared.nav.members.Places.{Places}
 use Rattle.json.specs.Tree.{Json, Fields, depth, depthsOf}
 use Rattle.json.specs.Grammar.{IsWs, Ws, Name, Value, Members}
-use Rattle.json.specs.Grammar.Value.{val-scalar, val-object0, val-object}
+use Rattle.json.specs.Grammar.Value.{val-object0, val-object}
 use Rattle.json.specs.Grammar.Member.{member}
 use Rattle.json.specs.Grammar.Members.{mem-last, mem-more}
 use Rattle.json.specs.Faults.{Fault, Not, Is, NoName}
-use Rattle.json.specs.Faults.Not.{not-head}
 use Rattle.json.specs.Steps.{Opens, Leads, Ends}
 use Rattle.json.specs.Steps.Opens.{opens}
 use Rattle.json.specs.Steps.Leads.{leads}
@@ -45,11 +44,13 @@ module _ {k w : List ℕ} where
           rw (leads-unique x (rw (← e .1) at x′) .1) f
 
   -- and where no member follows it
-  pub stuck : {s l u : List ℕ} → Name w l u → Not IsWs u → (Quoted k w → ⊥) → ((j : Json) (v : List ℕ) → Leads 31 u j v → ⊥) →
+  pub stuck : {s l u : List ℕ} → Name w l u → Not IsWs u → (Quoted k w → ⊥) →
+      ((j : Json) (v : List ℕ) → Leads 31 u j v → ⊥) →
       FindTo s w k 0
   stuck n m q x = find-absent (λ v y. on n m q x y)
     where
-      on : {l u v : List ℕ} → Name w l u → Not IsWs u → (Quoted k w → ⊥) → ((j : Json) (v : List ℕ) → Leads 31 u j v → ⊥) →
+      on : {l u v : List ℕ} → Name w l u → Not IsWs u → (Quoted k w → ⊥) →
+          ((j : Json) (v : List ℕ) → Leads 31 u j v → ⊥) →
           Finds k w v → ⊥
       on n m q x (finds-here n′ m′ q′) = q q′
       on n m q x (finds-on n′ q′ x′ f) =
@@ -65,7 +66,8 @@ module _ {k w : List ℕ} where
       on h (finds-on n q x f) = no-name h n
 
 -- the object ends where it does past a member
-shut-step : {s w l u c : List ℕ} {j : Json} {o : ℕ} → Name w l u → Not IsWs u → Leads 31 u j c → ShutTo s c o → ShutTo s w o
+shut-step : {s w l u c : List ℕ} {j : Json} {o : ℕ} → Name w l u → Not IsWs u → Leads 31 u j c → ShutTo s c o →
+    ShutTo s w o
 unfolding depth
 shut-step n m (leads v t d x y z) (shut-at p h k e) = shut-at p h (mem-more (member n v) x y k) (omega arith)
 shut-step n m x (unshut f) = unshut (λ ms r h d. on n m x f h d)
@@ -120,7 +122,8 @@ finish a (going g) = g 0 a
 finish a (gone h f) = f
 
 -- past a member
-module _ {s w l : List ℕ} {v : ℕ} (n : Name w l (drop v s)) (m : Not IsWs (drop v s)) (h : 0 < v) (r : v ≤ length s) where
+module _ {s w l : List ℕ} {v : ℕ} (n : Name w l (drop v s)) (m : Not IsWs (drop v s)) (h : 0 < v)
+    (r : v ≤ length s) where
   pass : {z k c : List ℕ} {j : Json} {p q : ℕ} → Leads 31 (drop v s) j c → Kept (Quoted k w) p v q → Going s z w k p →
       Going s z c k q
   pass x (kept-new e y) (going g) = gone h (g _ (find-at h r (finds-here n m y)))
@@ -196,7 +199,8 @@ module _ {s z w ka kb kc kd ke kf kg kh : List ℕ} where
 
   -- past a member
   module _ {l : List ℕ} {v : ℕ} {old r : Places} (n : Name w l (drop v s)) (m : Not IsWs (drop v s)) (h : 0 < v)
-      (t : v ≤ length s) (k : KeptAll w v ka kb kc kd ke kf kg kh old r) (g : GoingAll s z w ka kb kc kd ke kf kg kh old) where
+      (t : v ≤ length s) (k : KeptAll w v ka kb kc kd ke kf kg kh old r)
+      (g : GoingAll s z w ka kb kc kd ke kf kg kh old) where
     pub pass-all : {c : List ℕ} {j : Json} → Leads 31 (drop v s) j c → GoingAll s z c ka kb kc kd ke kf kg kh r
     pass-all x =
         record {
@@ -270,10 +274,12 @@ past-of (opens x n q) (unshut f) = past-none (λ ms r v d. on x n q f v d)
     on x n q f (val-object0 y) d = not-is q (ws-unique x n y (solid 0x7d (omega arith)))
     on x n q f (val-object y h) d = f _ _ (rw (← ws-unique x n y (members-no-ws h)) at h) (omega arith)
 
+-- an empty object
 pub past-empty : {s w u : List ℕ} {q : ℕ} → 0 < q → q ≤ length s → w ≡ 0x7b ∷ u → Ws u (0x7d ∷ drop q s) → PastTo s w q
 unfolding depth
 past-empty p l e x = rw e (past-at p l (val-object0 x) (omega arith))
 
+-- no object
 pub past-shut : {s w : List ℕ} → Not (Is 0x7b) w → PastTo s w 0
 past-shut n = past-none (λ ms r v d. on n v)
   where

@@ -2,12 +2,12 @@
 -- Assumes nothing.
 use Prim.Native.Nat.{ℕ, _≤_, _<_}
 use native.Mathlib.Omega.{arith}
-use mathlib.Core.Path.{_≡_, refl, sym, _∙_}
-use mathlib.Core.Bool.{true, false}
-use mathlib.Core.List.{List, _∷_}
+use mathlib.Core.Path.{_≡_, refl, _∙_}
+use mathlib.Core.List.{List}
 use mathlib.Core.Option.{Option, some, none}
 use lib.ListN.{length, drop}
 use Rattle.laws.proofs.Tests.{by-test}
+use Rattle.json.specs.declared.nav.Step.{Step}
 use Rattle.json.specs.declared.nav.members.Places.{Places}
 use Rattle.json.specs.Tree.{Json, Fields, depth, depthsOf}
 use Rattle.json.specs.Grammar.{Name, Value, Members}
@@ -20,7 +20,7 @@ use Rattle.json.specs.Faults.{Not, Is}
 use Rattle.json.specs.Faults.Not.{not-head}
 use Rattle.json.specs.Faults.Stop.{stop-object}
 use Rattle.json.specs.Places.{Stands}
-use Rattle.json.specs.Steps.{Opens, Leads}
+use Rattle.json.specs.Steps.{Opens, Leads, NextTo, AfterTo}
 use Rattle.json.specs.Steps.Opens.{opens}
 use Rattle.json.specs.Steps.Leads.{leads}
 use Rattle.json.specs.Steps.Ends.{ends}
@@ -32,7 +32,7 @@ use Rattle.json.specs.Members.PastTo.{past-at, past-none}
 use Rattle.json.specs.Members.FoundTree.{tree-at, tree-absent}
 use Rattle.json.proofs.Unique.{solid, ws-unique, value-unique, name-unique, value-no-ws, members-no-ws, scalar-brace, at-brace, at-comma}
 use Rattle.json.proofs.Excluded.{not-is}
-use Rattle.json.proofs.nav.Steps.{same-place, opens-unique, leads-unique, leads-brace, leads-no-ws}
+use Rattle.json.proofs.nav.Steps.{same-place, next-after, opens-unique, leads-unique, leads-brace, leads-no-ws}
 use Rattle.json.proofs.nav.Spellings.{quoted-name, name-quoted}
 
 -- the members of the object that opens at w
@@ -42,6 +42,7 @@ members-of (opens x n q) (val-scalar h) = absurd (scalar-brace h)
 members-of (opens x n q) (val-object0 y) = absurd (not-is q (ws-unique x n y (solid 0x7d (omega arith))))
 members-of (opens x n q) (val-object {ms = ms} y h) = (ms, refl, rw (← ws-unique x n y (members-no-ws h)) at h)
 
+-- a quotation mark is no brace
 mark-no-brace : Is 0x7d 0x22 → ⊥
 mark-no-brace = elim [ ]
 
@@ -57,7 +58,8 @@ nothing k = refl
 
 module _ {k : List ℕ} where
   -- the first member has the name
-  hit : {w l v : List ℕ} (j : Json) (ms : Fields) → Name w l v → Quoted k w → lookup k (Fields.field-then l j ms) ≡ some j
+  hit : {w l v : List ℕ} (j : Json) (ms : Fields) → Name w l v → Quoted k w → lookup k
+      (Fields.field-then l j ms) ≡ some j
   unfolding lookup
   hit j ms n q = rw (quoted-name n q)
 
@@ -66,6 +68,12 @@ module _ {k : List ℕ} where
       lookup k (Fields.field-then l j ms) ≡ lookup k ms
   unfolding lookup
   miss {l = l} j ms n q = by-test (spells k l) (λ e. absurd (q (name-quoted n e))) (λ e. rw e)
+
+  -- what is found past it
+  further : {w l u v : List ℕ} (j : Json) (ms : Fields) → Name w l u → (Quoted k w → ⊥) →
+      (i : Json) × (lookup k ms ≡ some i) × Stands v i →
+      (i : Json) × (lookup k (Fields.field-then l j ms) ≡ some i) × Stands v i
+  further j ms n q g = (g .0, miss j ms n q ∙ g .1, g .2)
 
   -- what is found among the members
   found-in : {w v a : List ℕ} {ms : Fields} → Finds k w v → Members w ms a → depthsOf ms ≤ 31 →
@@ -86,8 +94,7 @@ module _ {k : List ℕ} where
   found-in (finds-on n q z f) (mem-more {j = j} {ms = ms} (member n′ v) x y h) d =
       let u = name-unique n (leads-no-ws z) n′ (value-no-ws v) in
       let t = leads-unique (rw (u .1) at z) (leads v (at-comma v x) (omega arith) x y (members-no-ws h)) in
-      let g = found-in f (rw (← t .1) at h) (omega arith) in
-      (g .0, miss j ms n′ q ∙ g .1, g .2)
+      further j ms n′ q (found-in f (rw (← t .1) at h) (omega arith))
 
   -- what is not found among them
   absent-in : {w a : List ℕ} {ms : Fields} → Members w ms a → depthsOf ms ≤ 31 → ((v : List ℕ) → Finds k w v → ⊥) →
@@ -100,6 +107,7 @@ module _ {k : List ℕ} where
       let z : Leads 31 _ j _ = leads v (at-comma v x) (omega arith) x y (members-no-ws h) in
       miss j ms n q ∙ absent-in h (omega arith) (λ u g. f u (finds-on n q z g))
 
+  -- what is not found in a value
   absent-of : {w a : List ℕ} {j : Json} → Value w j a → depth j ≤ 32 →
       ((u v : List ℕ) → Opens 0x7b 0x7d w u → Finds k u v → ⊥) → fieldOf k j ≡ none
   unfolding depth fieldOf
@@ -176,12 +184,19 @@ pub past-stands : {s w : List ℕ} {o : ℕ} {ms : Fields} → PastTo s w o → 
 past-stands (past-at h l v d) t = (h, l, value-unique v stop-object (t .reads) (t .stop) .1)
 past-stands (past-none f) t = absurd (f _ _ (t .reads) (t .shallow))
 
--- a member that is found, and one that is not
+-- the step from past an object is the step past it
+pub after-object : {s w : List ℕ} {p : ℕ} {o : Step} → PastTo s w p → (p ≡ 0 → ⊥) → AfterTo s (drop p s) 0x5d o →
+    NextTo s w 32 0x5d o
+after-object (past-at h l v d) f a = next-after (omega arith) v stop-object d a
+after-object (past-none g) f a = absurd (f refl)
+
+-- a member that is found
 pub at-some : {s : List ℕ} {o : Option Json} {p : ℕ} → FoundTree s o p → (p ≡ 0 → ⊥) →
     (j : Json) × (o ≡ some j) × Stands (drop p s) j
 at-some (tree-at {j = j} h l t) f = (j, refl, t)
 at-some tree-absent f = absurd (f refl)
 
+-- a member that is not found
 pub at-none : {s : List ℕ} {o : Option Json} {p : ℕ} → FoundTree s o p → p ≡ 0 → o ≡ none
 at-none (tree-at h l t) e = absurd (omega arith)
 at-none tree-absent e = refl

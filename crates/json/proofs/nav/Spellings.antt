@@ -21,13 +21,13 @@ use Rattle.json.specs.Grammar.Name.{name}
 use Rattle.json.specs.Grammar.Scalar.{sc-null, sc-true, sc-false, sc-number, sc-string}
 use Rattle.json.specs.Grammar.Value.{val-scalar, val-array0, val-array, val-object0, val-object}
 use Rattle.json.specs.Faults.{Fault, Not, Is, SomeTo, NoLit, NoSome}
-use Rattle.json.specs.Faults.Not.{not-end, not-head}
+use Rattle.json.specs.Faults.Not.{not-head}
 use Rattle.json.specs.Faults.Stop.{stop-string}
 use Rattle.json.specs.Faults.SomeTo.{to-some}
 use Rattle.json.specs.Faults.NoSome.{some-bad}
 use Rattle.json.specs.Scans.{Tells}
 use Rattle.json.specs.Scans.Tells.{tells-true, tells-false}
-use Rattle.json.specs.Numbers.{number-not, digits-unique}
+use Rattle.json.specs.Numbers.{digits-unique}
 use Rattle.json.specs.Answer.{first}
 use Rattle.json.specs.Parse.{treeAt}
 use Rattle.json.specs.Places.{Stands}
@@ -35,8 +35,8 @@ use Rattle.json.specs.Words.{same, plain, plains, spells, isString, isSt
 use Rattle.json.specs.Words.Quoted.{quoted}
 use Rattle.json.specs.Words.Versioned.{versioned}
 use Rattle.json.proofs.Questions.{tells-as, same as sameNumber, atMost, both, denied}
-use Rattle.json.proofs.Laws.{told, untold}
-use Rattle.json.proofs.Unique.{heads, tails, lit-unique, chars-unique}
+use Rattle.json.proofs.Laws.{told}
+use Rattle.json.proofs.Unique.{lit-unique, chars-unique}
 use Rattle.json.proofs.Excluded.{no-lit, not-is}
 use Rattle.json.proofs.nav.Standing.{stands-tree, at-tree}
 
@@ -58,6 +58,7 @@ same-is (a ∷ x) (b ∷ y) e =
     let t = same-is x y (u .1) in
     cc
 
+-- a list is the same as itself
 same-refl : (x : List ℕ) → same x x ≡ true
 same-refl [] = refl
 same-refl (a ∷ x) = rw (eq-eqb a a refl, same-refl x)
@@ -105,6 +106,7 @@ chars-of e (lit-more {k = b} {ks = k} h) =
     let u = and-true (plain b) (plains k) e in
     chars-plain (told (plain-tells b) (u .0)) (chars-of (u .1) h)
 
+-- and what stands there as a plain word is that word
 pub lit-of : {k w a : List ℕ} → plains k ≡ true → Chars w k a → Lit k w (0x22 ∷ a)
 unfolding plains
 lit-of e chars-close = lit-none
@@ -116,19 +118,22 @@ pub quoted-name : {k w l v : List ℕ} → Name w l v → Quoted k w → spells 
 unfolding spells
 quoted-name {k = k} (name h x y) (quoted p q) = rw (chars-unique h (chars-of p q) .0, p, same-refl k)
 
+-- and the word is the name
 pub name-quoted : {k w l v : List ℕ} → Name w l v → spells k l ≡ true → Quoted k w
 unfolding spells
 name-quoted {k = k} {l = l} (name h x y) e =
     let u = and-true (plains k) (same l k) e in
     quoted (u .0) (lit-of (u .0) (rw (same-is l k (u .1)) at h))
 
--- a string that is spelled otherwise, or not plain, or no string
+-- a string that no mark closes behind the word
 pub unquoted : {k w r : List ℕ} → Lit k w r → Not (Is 0x22) r → Quoted k (0x22 ∷ w) → ⊥
 unquoted h n (quoted p x) = not-is n (lit-unique h x)
 
+-- it is spelled otherwise
 pub misspelled : {k w r : List ℕ} {f : Fault} → NoLit k w f r → Quoted k (0x22 ∷ w) → ⊥
 misspelled h (quoted p x) = no-lit h x
 
+-- it is no string
 pub unmarked : {k w : List ℕ} → Not (Is 0x22) w → Quoted k w → ⊥
 unmarked n (quoted p x) = not-is n refl
 
@@ -143,7 +148,13 @@ quoted-tells {k = k} h e =
 -- a string stands with its spelling
 string-stands : {w cs a : List ℕ} → Chars w cs a → Stands (0x22 ∷ w) (Json.string cs)
 unfolding depth
-string-stands {a = a} h = record { rest = a; reads = val-scalar (sc-string h); stop = stop-string; shallow = omega arith }
+string-stands {a = a} h = record {
+  rest = a;
+  reads = val-scalar
+      (sc-string h);
+  stop = stop-string;
+  shallow = omega arith;
+}
 
 -- a value that is not the string k
 string-not : (k : List ℕ) {w a : List ℕ} {j : Json} → Value w j a → (Quoted k w → ⊥) → isString k j ≡ false
@@ -169,10 +180,11 @@ string-is {k = k} (tells-true (quoted p h)) = rw (stands-tree (string-stands (ch
 string-is {k = k} {w = w} (tells-false f) =
     at-tree (λ o. false ≡ isStringAt k o) w (λ j t. sym (string-not k (t .reads) f)) (λ n. refl)
 
--- digits stand in a string as themselves
+-- a digit stands for itself in a string
 digit-plain : {d : ℕ} → Digit d → Plain d
 digit-plain g = (omega arith, omega arith, λ e. omega arith, λ e. omega arith)
 
+-- so digits stand for themselves
 digit-chars : {w ds a : List ℕ} → Digits w ds (0x22 ∷ a) → Chars w ds a
 digit-chars digits-none = chars-close
 digit-chars (digits-more d h) = chars-plain (digit-plain d) (digit-chars h)
@@ -241,9 +253,11 @@ version-is (tells-true (versioned (some g h))) =
 version-is {w = w} (tells-false f) =
     at-tree (λ o. false ≡ isVersionAt o) w (λ j t. sym (version-not (t .reads) f)) (λ n. refl)
 
+-- what a version starts with
 abbrev Start : List ℕ
 Start = 0x22 ∷ 0x32 ∷ 0x2e ∷ []
 
+-- a version, taken apart
 version-start : {w : List ℕ} → Versioned w → (a ds b : List ℕ) × Lit Start w a × Some a ds (0x22 ∷ b)
 version-start (versioned {w = w} {ds = ds} {a = a} h) = (w, ds, a, lit-more (lit-more (lit-more lit-none)), h)
 
@@ -251,6 +265,7 @@ version-start (versioned {w = w} {ds = ds} {a = a} h) = (w, ds, a, lit-more (lit
 pub version-start-no : {w r : List ℕ} {f : Fault} → NoLit Start w f r → Tells (Versioned w) false
 version-start-no k = tells-false (λ v. no-lit k (version-start v .3))
 
+-- no digit follows
 pub version-digits-no : {w a r : List ℕ} {f : Fault} → Lit Start w a → NoSome a f r → Tells (Versioned w) false
 version-digits-no h k = tells-false (λ v. let x = version-start v in none k (rw (← lit-unique h (x .3)) at (x .4)))
   where

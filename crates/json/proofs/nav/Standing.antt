@@ -1,6 +1,6 @@
 -- What stands at a place: one tree, which `treeAt` computes.
 -- Assumes nothing.
-use Prim.Native.Nat.{ℕ, _≤_}
+use Prim.Native.Nat.{ℕ}
 use mathlib.Core.Path.{_≡_, refl, ap}
 use mathlib.Core.List.{List}
 use mathlib.Core.Option.{Option, some, none}
@@ -26,10 +26,12 @@ stands-of {r = r} k = record { rest = r; reads = k .1; stop = k .2; shallow = k 
 pub no-stands : {f : Fault} {w r : List ℕ} {j : Json} → NoValue 32 w f r → Stands w j → ⊥
 no-stands k t = wrong-none (no-value k (t .reads) (t .stop)) (t .shallow)
 
+-- a reading gives the tree that stands there
 to-tree : {w : List ℕ} {j : Json} (g : Got (ValueOk 32 w) (NoValue 32 w)) → Stands w j → said g ≡ some j
 to-tree (got r k) t = ap some (stands-unique (stands-of k) t)
 to-tree (lost f r k) t = absurd (no-stands k t)
 
+-- and none where nothing stands
 to-none : {w : List ℕ} (g : Got (ValueOk 32 w) (NoValue 32 w)) → ((j : Json) → Stands w j → ⊥) → said g ≡ none
 to-none (got r k) f = absurd (f (k .0) (stands-of k))
 to-none (lost f r k) g = refl

@@ -26,7 +26,7 @@ use Rattle.json.specs.Steps.Ends.{ends}
 use Rattle.json.specs.Steps.NextTo.{next-more, next-end, next-bad}
 use Rattle.json.specs.Steps.AfterTo.{after-more, after-end, after-bad}
 use Rattle.json.proofs.Laws.{Byte, is-same, later}
-use Rattle.json.proofs.Unique.{solid, tails, heads, ws-unique, value-unique, value-no-ws, same-comma, same-bracket, comma-brace, comma-bracket}
+use Rattle.json.proofs.Unique.{solid, tails, ws-unique, value-unique, value-no-ws, same-comma, same-bracket, comma-brace, comma-bracket}
 use Rattle.json.proofs.Excluded.{not-is, Wrong, no-value, not-comma, not-follows, follows-no-ws}
 use Rattle.json.proofs.Excluded.Wrong.{deeper}
 
@@ -73,6 +73,7 @@ bad-leads u m x q (leads v s l y b k) =
     let e = value-unique u m v s in
     not-comma q (ws-unique x (follows-no-ws q) (rw (← e .1) at y) (solid 0x2c (omega arith)))
 
+-- nor does the closing bracket follow
 bad-ends : {n c : ℕ} {w a r v : List ℕ} {i j : Json} → Value w i a → Stop i a → Ws a r → Not (Follows c) r →
     0x20 < c → Ends n c w j v → ⊥
 bad-ends {c = c} u m x q h (ends v s l y) =
@@ -81,12 +82,15 @@ bad-ends {c = c} u m x q h (ends v s l y) =
 
 -- what follows a value
 module _ {s w : List ℕ} {n c p : ℕ} where
+  -- a comma
   pub next-of-more : {q : ℕ} → ValueOk n w (drop p s) → MoreAt s p q → NextTo s w n c (More q)
   next-of-more v m = next-more (m .within) (leads (v .1) (v .2) (v .3) (m .comma) (m .run) (m .stop))
 
+  -- the closing bracket
   pub next-of-end : {q : ℕ} → ValueOk n w (drop p s) → EndAt s p c q → NextTo s w n c (End q)
   next-of-end v m = next-end (m .within) (ends (v .1) (v .2) (v .3) (m .run))
 
+  -- neither
   pub next-of-bad : {q : ℕ} → 0x20 < c → ValueOk n w (drop p s) → BadAt s p c q → NextTo s w n c Bad
   next-of-bad h v m =
       next-bad (λ j u. bad-leads (v .1) (v .2) (m .run) (m .stop)) (λ j r. bad-ends (v .1) (v .2) (m .run) (m .stop) h)
@@ -104,7 +108,8 @@ leads-brace (leads v s l a b m) (ends v′ s′ l′ a′) = let e = value-uniqu
 
 -- a comma, or the closing bracket
 pub leads-bracket : {n m : ℕ} {w u v : List ℕ} {i j : Json} → Leads n w i u → Ends m 0x5d w j v → ⊥
-leads-bracket (leads v s l a b m) (ends v′ s′ l′ a′) = let e = value-unique v s v′ s′ in comma-bracket a (rw (← e .1) at a′)
+leads-bracket (leads v s l a b m) (ends v′ s′ l′ a′) = let e = value-unique v s v′ s′ in comma-bracket a
+    (rw (← e .1) at a′)
 
 -- one end
 ends-unique : {n : ℕ} {w u v : List ℕ} {i j : Json} → Ends n 0x5d w i u → Ends n 0x5d w j v → u ≡ v
@@ -140,11 +145,13 @@ empty-none {c = c} h x (opens a m q) = not-is q (ws-unique a m x (solid c h))
 
 -- the answers of `next`, taken apart
 module _ {s w : List ℕ} {n c q : ℕ} where
+  -- a comma
   pub led : {o : Step} → NextTo s w n c o → o ≡ More q → (j : Json) × (q ≤ length s) × Leads n w j (drop q s)
   led (next-more {q = p} {j = j} l k) e = let h : p ≡ q = cc in rw (← h) (j, l, k)
   led (next-end l k) e = absurd (let z : _≡_ {A = ℕ} 0 1 = cc in omega arith)
   led (next-bad f g) e = absurd (let z : _≡_ {A = ℕ} 0 1 = cc in omega arith)
 
+  -- the closing bracket
   pub ended : {o : Step} → NextTo s w n c o → o ≡ End q → (j : Json) × (q ≤ length s) × Ends n c w j (drop q s)
   ended (next-more l k) e = absurd (let z : _≡_ {A = ℕ} 0 1 = cc in omega arith)
   ended (next-end {q = p} {j = j} l k) e = let h : p ≡ q = cc in rw (← h) (j, l, k)
@@ -159,18 +166,22 @@ lost (next-bad f g) e = (f, g)
 
 -- the answers of `open`, taken apart
 module _ {s w : List ℕ} {b c q : ℕ} where
+  -- something inside
   pub opened : {o : Step} → OpenTo s w b c o → o ≡ More q → (q ≤ length s) × Opens b c w (drop q s)
   opened (open-more {q = p} l k) e = let h : p ≡ q = cc in rw (← h) (l, k)
   opened (open-end l k x) e = absurd (let z : _≡_ {A = ℕ} 0 1 = cc in omega arith)
   opened (open-bad f) e = absurd (let z : _≡_ {A = ℕ} 0 1 = cc in omega arith)
 
-  pub empty : {o : Step} → OpenTo s w b c o → o ≡ End q → (v : List ℕ) × (q ≤ length s) × (w ≡ b ∷ v) × Ws v (c ∷ drop q s)
+  -- nothing inside
+  pub empty : {o : Step} → OpenTo s w b c o → o ≡ End q → (v : List ℕ) × (q ≤ length s) × (w ≡ b ∷ v) × Ws v
+      (c ∷ drop q s)
   empty (open-more l k) e = absurd (let z : _≡_ {A = ℕ} 0 1 = cc in omega arith)
   empty (open-end {q = p} {v = v} l k x) e = let h : p ≡ q = cc in rw (← h) (v, l, k, x)
   empty (open-bad f) e = absurd (let z : _≡_ {A = ℕ} 0 1 = cc in omega arith)
 
 -- past the brackets of nothing
-pub open-later : (s : List ℕ) (at : ℕ) {v : List ℕ} {b c q : ℕ} → q ≤ length s → drop at s ≡ b ∷ v → Ws v (c ∷ drop q s) →
+pub open-later : (s : List ℕ) (at : ℕ) {v : List ℕ} {b c q : ℕ} → q ≤ length s → drop at s ≡ b ∷ v → Ws v
+    (c ∷ drop q s) →
     at < q
 open-later s at {q = q} l e x = later s at q l (rw e (omega (arith, ws-shorter x)))
 
@@ -195,7 +206,8 @@ open-unique (open-bad f) (open-bad g) = refl
 
 -- `next` has one answer
 pub next-unique : {s w : List ℕ} {n : ℕ} {o p : Step} → NextTo s w n 0x5d o → NextTo s w n 0x5d p → o ≡ p
-next-unique {s = s} (next-more {q = q} l x) (next-more {q = r} m y) = ap More (same-place s q r l m (leads-unique x y .1))
+next-unique {s = s} (next-more {q = q} l x) (next-more {q = r} m y) = ap More
+    (same-place s q r l m (leads-unique x y .1))
 next-unique (next-more l x) (next-end m y) = absurd (leads-bracket x y)
 next-unique (next-more l x) (next-bad f g) = absurd (f _ _ x)
 next-unique (next-end l x) (next-more m y) = absurd (leads-bracket y x)
@@ -209,6 +221,7 @@ next-unique (next-bad f g) (next-bad h k) = refl
 no-comma : {w b r : List ℕ} {c : ℕ} → Ws w (0x2c ∷ b) → Ws w r → Not (Follows c) r → ⊥
 no-comma x y q = not-comma q (ws-unique y (follows-no-ws q) x (solid 0x2c (omega arith)))
 
+-- no closing bracket
 no-close : {w b r : List ℕ} {c : ℕ} → 0x20 < c → Ws w (c ∷ b) → Ws w r → Not (Follows c) r → ⊥
 no-close {c = c} h x y q = not-follows q (ws-unique y (follows-no-ws q) x (solid c h))
 
@@ -219,7 +232,8 @@ after-unique {s = s} (after-more {q = q} l x y z) (after-more {q = r} l′ x′ 
 after-unique (after-more l x y z) (after-end l′ x′) = absurd (comma-bracket x x′)
 after-unique (after-more l x y z) (after-bad y′ f) = absurd (no-comma x y′ f)
 after-unique (after-end l x) (after-more l′ x′ y z) = absurd (comma-bracket x′ x)
-after-unique {s = s} (after-end {q = q} l x) (after-end {q = r} l′ x′) = ap End (same-place s q r l l′ (same-bracket x x′))
+after-unique {s = s} (after-end {q = q} l x) (after-end {q = r} l′ x′) = ap End
+    (same-place s q r l l′ (same-bracket x x′))
 after-unique (after-end l x) (after-bad y′ f) = absurd (no-close (omega arith) x y′ f)
 after-unique (after-bad y f) (after-more l x y′ z) = absurd (no-comma x y f)
 after-unique (after-bad y f) (after-end l x) = absurd (no-close (omega arith) x y f)
@@ -233,10 +247,12 @@ next-after h v t d (after-end l x) = next-end l (ends v t d x)
 next-after h v t d (after-bad x f) = next-bad (λ j u. bad-leads v t x f) (λ j r. bad-ends v t x f h)
 
 -- it leads to a later place
-pub after-later : (s : List ℕ) (at : ℕ) {c q : ℕ} {o : Step} → AfterTo s (drop at s) c o → o ≡ More q → (at < q) × (q ≤ length s)
+pub after-later : (s : List ℕ) (at : ℕ) {c q : ℕ} {o : Step} → AfterTo s (drop at s) c o → o ≡ More q → (at < q) ×
+    (q ≤ length s)
 after-later s at {q = q} a d = let m = by a d in (later s at q (m .0) (m .1), m .0)
   where
-    by : {w : List ℕ} {c : ℕ} {o : Step} → AfterTo s w c o → o ≡ More q → (q ≤ length s) × (length (drop q s) < length w)
+    by : {w : List ℕ} {c : ℕ} {o : Step} → AfterTo s w c o → o ≡ More q → (q ≤ length s) ×
+        (length (drop q s) < length w)
     by (after-more {q = p} l x y z) e = let h : p ≡ q = cc in rw (← h) (l, omega (arith, ws-shorter x, ws-shorter y))
     by (after-end l x) e = absurd (let z : _≡_ {A = ℕ} 0 1 = cc in omega arith)
     by (after-bad x f) e = absurd (let z : _≡_ {A = ℕ} 0 1 = cc in omega arith)

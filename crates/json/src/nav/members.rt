@@ -53,7 +53,9 @@ pub(crate) fn keep_all(
     kg: &[u8],
     kh: &[u8],
 ) -> Places
-    ensures { λ r. ⌜ KeptAll (drop at (now (s .entry))) v (now (ka .entry)) (now (kb .entry)) (now (kc .entry)) (now (kd .entry)) (now (ke .entry)) (now (kf .entry)) (now (kg .entry)) (now (kh .entry)) old r ⌝ }
+    ensures { λ r. ⌜ KeptAll (drop at (now (s .entry))) v
+        (now (ka .entry)) (now (kb .entry)) (now (kc .entry)) (now (kd .entry))
+        (now (ke .entry)) (now (kf .entry)) (now (kg .entry)) (now (kh .entry)) old r ⌝ }
 {
     Places {
         a: keep(s, at, ka, old.a, v),
@@ -82,7 +84,9 @@ pub(crate) fn gather_from(
     kh: &[u8],
 ) -> Places
     requires { ⌜ at ≤ length (now s) ⌝ }
-    ensures { λ r. ⌜ Gathers (now (s .entry)) (drop at (now (s .entry))) (now (ka .entry)) (now (kb .entry)) (now (kc .entry)) (now (kd .entry)) (now (ke .entry)) (now (kf .entry)) (now (kg .entry)) (now (kh .entry)) r ⌝ }
+    ensures { λ r. ⌜ Gathers (now (s .entry)) (drop at (now (s .entry)))
+        (now (ka .entry)) (now (kb .entry)) (now (kc .entry)) (now (kd .entry))
+        (now (ke .entry)) (now (kf .entry)) (now (kg .entry)) (now (kh .entry)) r ⌝ }
 {
     let mut i = at;
     let mut places = Places {
@@ -128,7 +132,9 @@ pub fn gather(
     kg: &[u8],
     kh: &[u8],
 ) -> Places
-    ensures { λ r. ⌜ r ≡ gatherOf (now (s .entry)) (drop at (now (s .entry))) (now (ka .entry)) (now (kb .entry)) (now (kc .entry)) (now (kd .entry)) (now (ke .entry)) (now (kf .entry)) (now (kg .entry)) (now (kh .entry)) ⌝ }
+    ensures { λ r. ⌜ r ≡ gatherOf (now (s .entry)) (drop at (now (s .entry)))
+        (now (ka .entry)) (now (kb .entry)) (now (kc .entry)) (now (kd .entry))
+        (now (ke .entry)) (now (kf .entry)) (now (kg .entry)) (now (kh .entry)) ⌝ }
 {
     let mut none = Places {
         a: 0,

@@ -11,7 +11,8 @@ next-at-requires : tie.Need-next-at-requires
 next-at-requires c κs = search needs
 
 returns : tie.Need-returns
-returns c = next-unique (c .next-at .ensures) (next-is (omega arith) (drop-cut (c .before .before .args .s .now) (c .before .before .args .at)))
+returns c = next-unique (c .next-at .ensures) (next-is (omega arith)
+    (drop-cut (c .before .before .args .s .now) (c .before .before .args .at)))
 
 pub next-spec : {M : Type 1} → statement M
 next-spec = tie.close (tie.spec next-at-requires returns)

@@ -36,18 +36,25 @@ enum-known-p-3 c = search needs
 
 returns : tie.Need-returns
 returns c =
-    let v = said-past (c .before .before .before .before .before .before .before .value .ensures) (c .before .before .before .before .before .p .given .1) in
-    next-of-more (rw (c .before .before .before .before .before .before .before .before .clamp .ensures .same) at (v .1)) (more-at (c .before .before .before .after .ensures) (c .before .q .given .1))
+    let v = said-past (c .before .before .before .before .before .before .before .value .ensures)
+    (c .before .before .before .before .before .p .given .1) in
+    next-of-more (rw (c .before .before .before .before .before .before .before .before .clamp .ensures .same) at
+    (v .1)) (more-at (c .before .before .before .after .ensures) (c .before .q .given .1))
 
 returns-2 : tie.Need-returns-2
 returns-2 c =
-    let v = said-past (c .before .before .before .before .before .before .before .value .ensures) (c .before .before .before .before .before .p .given .1) in
-    next-of-end (rw (c .before .before .before .before .before .before .before .before .clamp .ensures .same) at (v .1)) (end-at (c .before .before .before .after .ensures) (c .before .q2 .given .1))
+    let v = said-past (c .before .before .before .before .before .before .before .value .ensures)
+    (c .before .before .before .before .before .p .given .1) in
+    next-of-end (rw (c .before .before .before .before .before .before .before .before .clamp .ensures .same) at
+    (v .1)) (end-at (c .before .before .before .after .ensures) (c .before .q2 .given .1))
 
 returns-3 : tie.Need-returns-3
 returns-3 c =
-    let v = said-past (c .before .before .before .before .before .before .before .value .ensures) (c .before .before .before .before .before .p .given .1) in
-    next-of-bad (omega arith) (rw (c .before .before .before .before .before .before .before .before .clamp .ensures .same) at (v .1)) (bad-at (c .before .before .before .after .ensures) (c .before .q3 .given .1))
+    let v = said-past (c .before .before .before .before .before .before .before .value .ensures)
+    (c .before .before .before .before .before .p .given .1) in
+    next-of-bad (omega arith)
+    (rw (c .before .before .before .before .before .before .before .before .clamp .ensures .same) at (v .1))
+    (bad-at (c .before .before .before .after .ensures) (c .before .q3 .given .1))
 
 returns-4 : tie.Need-returns-4
 returns-4 c =

@@ -27,19 +27,25 @@ returns : tie.Need-returns
 returns c =
     let m = more-at (c .before .before .before .after .ensures) (c .before .q .given .1) in
     let e = c .before .before .before .before .clamp .ensures .same in
-    after-unique (after-more (m .within) (rw e at (m .comma)) (m .run) (m .stop)) (after-is (drop-cut (c .before .before .before .before .before .before .args .s .now) (c .before .before .before .before .before .before .args .at)))
+    after-unique (after-more (m .within) (rw e at (m .comma)) (m .run) (m .stop))
+    (after-is (drop-cut (c .before .before .before .before .before .before .args .s .now)
+    (c .before .before .before .before .before .before .args .at)))
 
 returns-2 : tie.Need-returns-2
 returns-2 c =
     let m = end-at (c .before .before .before .after .ensures) (c .before .q2 .given .1) in
     let e = c .before .before .before .before .clamp .ensures .same in
-    after-unique (after-end (m .within) (rw e at (m .run))) (after-is (drop-cut (c .before .before .before .before .before .before .args .s .now) (c .before .before .before .before .before .before .args .at)))
+    after-unique (after-end (m .within) (rw e at (m .run)))
+    (after-is (drop-cut (c .before .before .before .before .before .before .args .s .now)
+    (c .before .before .before .before .before .before .args .at)))
 
 returns-3 : tie.Need-returns-3
 returns-3 c =
     let m = bad-at (c .before .before .before .after .ensures) (c .before .q3 .given .1) in
     let e = c .before .before .before .before .clamp .ensures .same in
-    after-unique (after-bad (rw e at (m .run)) (m .stop)) (after-is (drop-cut (c .before .before .before .before .before .before .args .s .now) (c .before .before .before .before .before .before .args .at)))
+    after-unique (after-bad (rw e at (m .run)) (m .stop))
+    (after-is (drop-cut (c .before .before .before .before .before .before .args .s .now)
+    (c .before .before .before .before .before .before .args .at)))
 
 pub next-past-spec : {M : Type 1} → statement M
 next-past-spec =

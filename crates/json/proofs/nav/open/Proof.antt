@@ -10,7 +10,8 @@ open-at-requires : tie.Need-open-at-requires
 open-at-requires c κs = search needs
 
 returns : tie.Need-returns
-returns c = open-unique (c .open-at .ensures) (open-is _ (drop-cut (c .before .before .args .s .now) (c .before .before .args .at)))
+returns c = open-unique (c .open-at .ensures) (open-is _
+    (drop-cut (c .before .before .args .s .now) (c .before .before .args .at)))
 
 pub open-spec : {M : Type 1} → statement M
 open-spec = tie.close (tie.spec open-at-requires returns)

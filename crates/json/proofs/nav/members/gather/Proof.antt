@@ -27,6 +27,8 @@ enum-told c = search needs
 
 returns : tie.Need-returns
 returns c =
+    let a = c .before .before .before .before .before .before .before .before .before .before .before .before
+    .before .before .args in
     let x = opened (c .before .before .before .before .open-at .ensures) (c .before .before .q .given .1) .1 in
     let g = c .gather-from .ensures in
     gather-unique
@@ -41,12 +43,14 @@ returns c =
       fh = found-of x (g .fh);
       end = past-of x (g .end);
     })
-    (gather-is (drop-cut (c .before .before .before .before .before .before .before .before .before .before .before .before .before .before .args .s .now) (c .before .before .before .before .before .before .before .before .before .before .before .before .before .before .args .at)))
+    (gather-is (drop-cut (a .s .now) (a .at)))
 
 returns-2 : tie.Need-returns-2
 returns-2 c =
+    let a = c .before .before .before .before .before .before .before .before .before .before .before .before
+    .before .args in
     let e = empty (c .before .before .before .open-at .ensures) (c .before .q2 .given .1) in
-    let l = open-later (c .before .before .before .before .before .before .before .before .before .before .before .before .before .args .s .now) (c .before .before .before .before .before .before .before .before .before .before .before .before .before .args .at) (e .1) (e .2) (e .3) in
+    let l = open-later (a .s .now) (a .at) (e .1) (e .2) (e .3) in
     gather-unique
     (record {
       fa = found-empty (e .2) (e .3);
@@ -59,10 +63,11 @@ returns-2 c =
       fh = found-empty (e .2) (e .3);
       end = past-empty (omega arith) (e .1) (e .2) (e .3);
     })
-    (gather-is (drop-cut (c .before .before .before .before .before .before .before .before .before .before .before .before .before .args .s .now) (c .before .before .before .before .before .before .before .before .before .before .before .before .before .args .at)))
+    (gather-is (drop-cut (a .s .now) (a .at)))
 
 returns-3 : tie.Need-returns-3
 returns-3 c =
+    let a = c .before .before .before .before .before .before .before .before .before .before .before .before .args in
     let n = shut (c .before .before .open-at .ensures) (c .enum-told .given .1) in
     gather-unique
     (record {
@@ -76,7 +81,7 @@ returns-3 c =
       fh = found-shut n;
       end = past-shut n;
     })
-    (gather-is (drop-cut (c .before .before .before .before .before .before .before .before .before .before .before .before .args .s .now) (c .before .before .before .before .before .before .before .before .before .before .before .before .args .at)))
+    (gather-is (drop-cut (a .s .now) (a .at)))
 
 pub gather-spec : {M : Type 1} → statement M
 gather-spec =

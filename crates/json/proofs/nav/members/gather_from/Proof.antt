@@ -38,61 +38,83 @@ enum-known-q c = search needs
 
 loop-less : tie.Need-loop-less Inv-loop μ-loop
 loop-less c =
-    let e = said-past (c .before .before .before .before .before .before .before .before .name .ensures) (c .before .before .before .before .before .before .v .given .1) in
+    let e = said-past (c .before .before .before .before .before .before .before .before .name .ensures)
+    (c .before .before .before .before .before .before .v .given .1) in
     let m = led (c .before .before .before .next-at .ensures) (c .before .q .given .1) in
     let k = name-shorter (e .1 .1) in
     let n = leads-shorter (m .2) in
-    let l = later (c .before .before .before .before .before .before .before .before .before .before .before .before .before .before .before .before .before .before .before .args .s .now) (c .before .before .before .before .before .before .before .before .before .loop .i) (c .before .q .given .0 .0) (m .1) (omega arith) in
+    let s = c .before .before .before .before .before .before .before .before .before .before .before
+    .before .before .before .before .before .before .before .before .args .s .now in
+    let l = later s (c .before .before .before .before .before .before .before .before .before .loop .i)
+    (c .before .q .given .0 .0) (m .1) (omega arith) in
     omega (arith, m .1)
 
 loop-again : tie.Need-loop-again Inv-loop μ-loop
 loop-again c =
-    let s = c .before .before .before .before .before .before .before .before .before .before .before .before .before .before .before .before .before .before .before .args .s .now in
-    let e = said-past (c .before .before .before .before .before .before .before .before .name .ensures) (c .before .before .before .before .before .before .v .given .1) in
-    let l = later s (c .before .before .before .before .before .before .before .before .before .loop .i) (c .before .before .before .before .before .before .v .given .0 .0) (e .0) (name-shorter (e .1 .1)) in
+    let s = c .before .before .before .before .before .before .before .before .before .before .before
+    .before .before .before .before .before .before .before .before .args .s .now in
+    let e = said-past (c .before .before .before .before .before .before .before .before .name .ensures)
+    (c .before .before .before .before .before .before .v .given .1) in
+    let l = later s (c .before .before .before .before .before .before .before .before .before .loop .i)
+    (c .before .before .before .before .before .before .v .given .0 .0) (e .0) (name-shorter (e .1 .1)) in
     let h : 0 < c .before .before .before .before .before .before .v .given .0 .0 = omega arith in
     let k = c .before .before .before .before .keep-all .ensures in
-    let m = led (c .before .before .before .next-at .ensures) (c .before .q .given .1) in
-    (m .1, pass-all (e .1 .1) (e .1 .2) h (e .0) k (c .before .before .before .before .before .before .before .before .before .loop .inv .1) (m .2))
+    let m = led (c .before .before .before .next-at .ensures) (c .before .q .given .1) in (
+      m .1,
+      pass-all (e .1 .1) (e .1 .2) h (e .0) k
+          (c .before .before .before .before .before .before .before .before .before .loop .inv .1) (m .2),
+    )
 
 enum-known-q-2 : tie.Need-enum-known-q-2 Inv-loop μ-loop
 enum-known-q-2 c = search needs
 
 returns : tie.Need-returns Inv-loop μ-loop
 returns c =
-    let s = c .before .before .before .before .before .before .before .before .before .before .before .before .before .before .before .before .before .before .before .args .s .now in
-    let e = said-past (c .before .before .before .before .before .before .before .before .name .ensures) (c .before .before .before .before .before .before .v .given .1) in
-    let l = later s (c .before .before .before .before .before .before .before .before .before .loop .i) (c .before .before .before .before .before .before .v .given .0 .0) (e .0) (name-shorter (e .1 .1)) in
+    let s = c .before .before .before .before .before .before .before .before .before .before .before
+    .before .before .before .before .before .before .before .before .args .s .now in
+    let e = said-past (c .before .before .before .before .before .before .before .before .name .ensures)
+    (c .before .before .before .before .before .before .v .given .1) in
+    let l = later s (c .before .before .before .before .before .before .before .before .before .loop .i)
+    (c .before .before .before .before .before .before .v .given .0 .0) (e .0) (name-shorter (e .1 .1)) in
     let h : 0 < c .before .before .before .before .before .before .v .given .0 .0 = omega arith in
     let k = c .before .before .before .before .keep-all .ensures in
     let m = ended (c .before .before .before .next-at .ensures) (c .before .q2 .given .1) in
-    let n = later s (c .before .before .before .before .before .before .v .given .0 .0) (c .before .q2 .given .0 .0) (m .1) (ends-shorter (m .2)) in
-    last-all (e .1 .1) (e .1 .2) h (e .0) k (c .before .before .before .before .before .before .before .before .before .loop .inv .1) (c .before .q2 .given .0 .0) (omega arith) (m .1) (m .2)
+    let n = later s (c .before .before .before .before .before .before .v .given .0 .0) (c .before .q2 .given .0 .0)
+    (m .1) (ends-shorter (m .2)) in
+    last-all (e .1 .1) (e .1 .2) h (e .0) k
+    (c .before .before .before .before .before .before .before .before .before .loop .inv .1)
+    (c .before .q2 .given .0 .0) (omega arith) (m .1) (m .2)
 
 enum-told : tie.Need-enum-told Inv-loop μ-loop
 enum-told c = search needs
 
 returns-2 : tie.Need-returns-2 Inv-loop μ-loop
 returns-2 c =
-    let s = c .before .before .before .before .before .before .before .before .before .before .before .before .before .before .before .before .before .before .args .s .now in
-    let e = said-past (c .before .before .before .before .before .before .before .name .ensures) (c .before .before .before .before .before .v .given .1) in
-    let l = later s (c .before .before .before .before .before .before .before .before .loop .i) (c .before .before .before .before .before .v .given .0 .0) (e .0) (name-shorter (e .1 .1)) in
+    let s = c .before .before .before .before .before .before .before .before .before .before .before
+    .before .before .before .before .before .before .before .args .s .now in
+    let e = said-past (c .before .before .before .before .before .before .before .name .ensures)
+    (c .before .before .before .before .before .v .given .1) in
+    let l = later s (c .before .before .before .before .before .before .before .before .loop .i)
+    (c .before .before .before .before .before .v .given .0 .0) (e .0) (name-shorter (e .1 .1)) in
     let h : 0 < c .before .before .before .before .before .v .given .0 .0 = omega arith in
     let k = c .before .before .before .keep-all .ensures in
     let m = lost (c .before .before .next-at .ensures) (c .enum-told .given .1) in
-    bad-all (e .1 .1) (e .1 .2) h (e .0) k (c .before .before .before .before .before .before .before .before .loop .inv .1) (m .0) (m .1)
+    bad-all (e .1 .1) (e .1 .2) h (e .0) k
+    (c .before .before .before .before .before .before .before .before .loop .inv .1) (m .0) (m .1)
 
 enum-known-p : tie.Need-enum-known-p Inv-loop μ-loop
 enum-known-p c = search needs
 
 returns-3 : tie.Need-returns-3 Inv-loop μ-loop
-returns-3 c = finish-all (said-broke (c .before .before .before .name .ensures) (c .before .p .given .1) .1) (c .before .before .before .before .loop .inv .1)
+returns-3 c = finish-all (said-broke (c .before .before .before .name .ensures) (c .before .p .given .1) .1)
+    (c .before .before .before .before .loop .inv .1)
 
 enum-known-p-2 : tie.Need-enum-known-p-2 Inv-loop μ-loop
 enum-known-p-2 c = search needs
 
 returns-4 : tie.Need-returns-4 Inv-loop μ-loop
-returns-4 c = finish-all (said-deep (c .before .before .before .name .ensures) (c .before .p2 .given .1) .1) (c .before .before .before .before .loop .inv .1)
+returns-4 c = finish-all (said-deep (c .before .before .before .name .ensures) (c .before .p2 .given .1) .1)
+    (c .before .before .before .before .loop .inv .1)
 
 pub gather-from-spec : {M : Type 1} → statement M
 gather-from-spec =

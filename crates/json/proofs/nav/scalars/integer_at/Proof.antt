@@ -20,7 +20,9 @@ enum-known-p c = search needs
 integer-from-requires : tie.Need-integer-from-requires
 integer-from-requires c κs =
     let v = said-past (c .before .before .before .value .ensures) (c .before .p .given .1) in
-    let l = later (c .before .before .before .before .before .before .args .s .now) (c .before .before .before .before .clamp .result) (c .before .p .given .0 .0) (v .0) (value-shorter (v .1 .1)) in
+    let l = later (c .before .before .before .before .before .before .args .s .now)
+    (c .before .before .before .before .clamp .result) (c .before .p .given .0 .0) (v .0)
+    (value-shorter (v .1 .1)) in
     (omega arith, v .0)
 
 enum-known-p-2 : tie.Need-enum-known-p-2
@@ -32,7 +34,9 @@ enum-known-p-3 c = search needs
 returns : tie.Need-returns
 returns c =
     let v = said-past (c .before .before .before .before .value .ensures) (c .before .before .p .given .1) in
-    integer-of (c .before .before .before .before .before .before .before .args .s .now) (c .before .before .before .before .before .clamp .result) (c .before .before .p .given .0 .0) (v .0) (v .1) (c .before .before .before .before .before .clamp .ensures .same)
+    integer-of (c .before .before .before .before .before .before .before .args .s .now)
+    (c .before .before .before .before .before .clamp .result) (c .before .before .p .given .0 .0) (v .0) (v .1)
+    (c .before .before .before .before .before .clamp .ensures .same)
     (c .integer-from .ensures)
 
 returns-2 : tie.Need-returns-2

@@ -49,7 +49,11 @@ add-m : tie.Need-add-m Inv-loop μ-loop
 add-m c = search needs
 
 returns-3 : tie.Need-returns-3 Inv-loop μ-loop
-returns-3 c = rw (left (c .before .before .before .before), from-large _ _ _ (c .before .before .if1 .left) (c .before .if2 .left) (c .if3 .taken))
+returns-3 c = rw (
+  left (c .before .before .before .before),
+  from-large _ _ _ (c .before .before .if1 .left)
+      (c .before .if2 .left) (c .if3 .taken),
+)
 
 add-i : tie.Need-add-i Inv-loop μ-loop
 add-i c = search needs

@@ -1,6 +1,5 @@
 -- `json::nav::scalars::is_version` meets its contract.
 -- Assumes nothing.
-use native.Mathlib.Omega.{arith}
 use Rattle.json.proofs.Laws.{said-past, said-broke, said-deep}
 use Rattle.json.proofs.nav.Spellings.{version-is, version-mark, version-start-no, version-digits-no}
 use borrow.Author.Needs.{needs}
@@ -42,22 +41,29 @@ enum-known-p-3 c = search needs
 
 returns : tie.Need-returns
 returns c =
-    let v = said-past (c .before .before .before .before .before .before .before .before .literal .ensures) (c .before .before .before .before .before .before .p .given .1) in
-    let h = rw (c .before .before .before .before .before .before .before .before .before .before .clamp .ensures .same) at (v .1) in
+    let v = said-past (c .before .before .before .before .before .before .before .before .literal .ensures)
+    (c .before .before .before .before .before .before .p .given .1) in
+    let h = rw
+    (c .before .before .before .before .before .before .before .before .before .before .clamp .ensures .same) at
+    (v .1) in
     let k = said-past (c .before .before .before .before .some .ensures) (c .before .before .q .given .1) in
     version-is (version-mark h (k .1 .1) (c .front .ensures))
 
 returns-2 : tie.Need-returns-2
 returns-2 c =
-    let v = said-past (c .before .before .before .before .before .before .before .literal .ensures) (c .before .before .before .before .before .p .given .1) in
-    let h = rw (c .before .before .before .before .before .before .before .before .before .clamp .ensures .same) at (v .1) in
+    let v = said-past (c .before .before .before .before .before .before .before .literal .ensures)
+    (c .before .before .before .before .before .p .given .1) in
+    let h = rw (c .before .before .before .before .before .before .before .before .before .clamp .ensures .same) at
+    (v .1) in
     let k = said-broke (c .before .before .before .some .ensures) (c .before .q2 .given .1) in
     version-is (version-digits-no h (k .1))
 
 returns-3 : tie.Need-returns-3
 returns-3 c =
-    let v = said-past (c .before .before .before .before .before .before .before .literal .ensures) (c .before .before .before .before .before .p .given .1) in
-    let h = rw (c .before .before .before .before .before .before .before .before .before .clamp .ensures .same) at (v .1) in
+    let v = said-past (c .before .before .before .before .before .before .before .literal .ensures)
+    (c .before .before .before .before .before .p .given .1) in
+    let h = rw (c .before .before .before .before .before .before .before .before .before .clamp .ensures .same) at
+    (v .1) in
     let k = said-deep (c .before .before .before .some .ensures) (c .before .q3 .given .1) in
     version-is (version-digits-no h (k .1))
 

@@ -36,16 +36,19 @@ loop-less c = omega arith
 
 loop-again : tie.Need-loop-again Inv-loop μ-loop
 loop-again c =
-    let e = plains-on (c .before .before .before .before .before .before .args .word .now) (c .before .before .before .before .loop .k) (omega arith) (c .before .is-plain .ensures) (c .if1 .taken) in
+    let e = plains-on (c .before .before .before .before .before .before .args .word .now)
+    (c .before .before .before .before .loop .k) (omega arith) (c .before .is-plain .ensures) (c .if1 .taken) in
     (omega arith, c .before .before .before .before .loop .inv .1 ∙ e)
 
 returns : tie.Need-returns Inv-loop μ-loop
 returns c =
-    let e = plains-off (c .before .before .before .before .before .before .args .word .now) (c .before .before .before .before .loop .k) (omega arith) (c .before .is-plain .ensures) (c .if1 .left) in
+    let e = plains-off (c .before .before .before .before .before .before .args .word .now)
+    (c .before .before .before .before .loop .k) (omega arith) (c .before .is-plain .ensures) (c .if1 .left) in
     sym (c .before .before .before .before .loop .inv .1 ∙ e)
 
 returns-2 : tie.Need-returns-2 Inv-loop μ-loop
-returns-2 c = sym (c .before .loop .inv .1 ∙ plains-end (c .before .before .before .args .word .now) (c .before .loop .k) (omega arith))
+returns-2 c = sym (c .before .loop .inv .1 ∙ plains-end (c .before .before .before .args .word .now)
+    (c .before .loop .k) (omega arith))
 
 pub is-word-spec : {M : Type 1} → statement M
 is-word-spec =

@@ -14,13 +14,15 @@ front-requires c κs = search needs
 
 add-inside : tie.Need-add-inside
 add-inside c =
-    let h = front-here 0x22 (c .before .before .before .before .args .s .now) (c .before .before .before .before .args .at) (c .before .front .ensures)
+    let h = front-here 0x22 (c .before .before .before .before .args .s .now)
+    (c .before .before .before .before .args .at) (c .before .front .ensures)
     (c .if1 .taken) (omega arith) in
     omega (arith, h .next)
 
 literal-requires : tie.Need-literal-requires
 literal-requires c κs =
-    let h = front-here 0x22 (c .before .before .before .before .args .s .now) (c .before .before .before .before .args .at) (c .before .front .ensures)
+    let h = front-here 0x22 (c .before .before .before .before .args .s .now)
+    (c .before .before .before .before .args .at) (c .before .front .ensures)
     (c .if1 .taken) (omega arith) in
     h .next
 
@@ -35,18 +37,29 @@ is-word-requires c κs = search needs
 
 returns : tie.Need-returns
 returns c =
-    let h = front-here 0x22 (c .before .before .before .before .before .before .before .before .before .before .before .args .s .now) (c .before .before .before .before .before .before .before .before .before .before .before .args .at) (c .before .before .before .before .before .before .before .before .front .ensures)
+    let h = front-here 0x22
+    (c .before .before .before .before .before .before .before .before .before .before .before .args .s .now)
+    (c .before .before .before .before .before .before .before .before .before .before .before .args .at)
+    (c .before .before .before .before .before .before .before .before .front .ensures)
     (c .before .before .before .before .before .before .before .if1 .taken) (omega arith) in
-    let k = front-here 0x22 (c .before .before .before .before .before .before .before .before .before .before .before .args .s .now) (c .before .before .before .before .p .given .0 .0) (c .before .before .front2 .ensures) (c .before .if2 .taken)
+    let k = front-here 0x22
+    (c .before .before .before .before .before .before .before .before .before .before .before .args .s .now)
+    (c .before .before .before .before .p .given .0 .0) (c .before .before .front2 .ensures)
+    (c .before .if2 .taken)
     (omega arith) in
-    let v = said-past (c .before .before .before .before .before .before .literal .ensures) (c .before .before .before .before .p .given .1) in
+    let v = said-past (c .before .before .before .before .before .before .literal .ensures)
+    (c .before .before .before .before .p .given .1) in
     rw (h .split) (quoted-tells (rw (k .split) at (v .1)) (c .is-word .ensures))
 
 returns-2 : tie.Need-returns-2
 returns-2 c =
-    let h = front-here 0x22 (c .before .before .before .before .before .before .before .before .before .before .args .s .now) (c .before .before .before .before .before .before .before .before .before .before .args .at) (c .before .before .before .before .before .before .before .front .ensures)
+    let h = front-here 0x22
+    (c .before .before .before .before .before .before .before .before .before .before .args .s .now)
+    (c .before .before .before .before .before .before .before .before .before .before .args .at)
+    (c .before .before .before .before .before .before .before .front .ensures)
     (c .before .before .before .before .before .before .if1 .taken) (omega arith) in
-    let v = said-past (c .before .before .before .before .before .literal .ensures) (c .before .before .before .p .given .1) in
+    let v = said-past (c .before .before .before .before .before .literal .ensures)
+    (c .before .before .before .p .given .1) in
     let f = front-other 0x22 _ (c .before .front2 .ensures) (c .if2 .left) in
     tells-false (λ q. unquoted (v .1) f (rw (h .split) at q))
 
@@ -55,7 +68,9 @@ enum-known-p-2 c = search needs
 
 returns-3 : tie.Need-returns-3
 returns-3 c =
-    let h = front-here 0x22 (c .before .before .before .before .before .before .before .before .args .s .now) (c .before .before .before .before .before .before .before .before .args .at) (c .before .before .before .before .before .front .ensures)
+    let h = front-here 0x22 (c .before .before .before .before .before .before .before .before .args .s .now)
+    (c .before .before .before .before .before .before .before .before .args .at)
+    (c .before .before .before .before .before .front .ensures)
     (c .before .before .before .before .if1 .taken) (omega arith) in
     let v = said-broke (c .before .before .before .literal .ensures) (c .before .p2 .given .1) in
     tells-false (λ q. misspelled (v .1) (rw (h .split) at q))
@@ -65,7 +80,9 @@ enum-known-p-3 c = search needs
 
 returns-4 : tie.Need-returns-4
 returns-4 c =
-    let h = front-here 0x22 (c .before .before .before .before .before .before .before .before .args .s .now) (c .before .before .before .before .before .before .before .before .args .at) (c .before .before .before .before .before .front .ensures)
+    let h = front-here 0x22 (c .before .before .before .before .before .before .before .before .args .s .now)
+    (c .before .before .before .before .before .before .before .before .args .at)
+    (c .before .before .before .before .before .front .ensures)
     (c .before .before .before .before .if1 .taken) (omega arith) in
     let v = said-deep (c .before .before .before .literal .ensures) (c .before .p3 .given .1) in
     tells-false (λ q. misspelled (v .1) (rw (h .split) at q))
