@@ -28,11 +28,13 @@ whole-fits w e =
     let a = and-true (leb 8 (length w) && eqb (headerAt w .chunkLength % 4) 0) (leb (8 + headerAt w .chunkLength) (length w)) e in
     (leb-true _ _ (and-true (leb 8 (length w)) (eqb (headerAt w .chunkLength % 4) 0) (a .0) .0), leb-true _ _ (a .1))
 
+-- where no whole chunk starts there is none
 pub chunks-none : (w : List ℕ) → startsWhole w ≡ false → chunksFrom 0 w ≡ []
 unfolding chunksFrom
 chunks-none [] e = refl
 chunks-none (b ∷ w) e = rw e
 
+-- a whole chunk at the front is the first
 pub chunks-more : (w : List ℕ) → startsWhole w ≡ true
     → chunksFrom 0 w ≡ headerAt w ∷ chunksFrom 0 (drop (8 + headerAt w .chunkLength) w)
 unfolding chunksFrom

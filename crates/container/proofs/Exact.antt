@@ -40,19 +40,24 @@ numbered f n i (rule7 s c e o) = (omega arith, omega arith)
 numbered f n i (rule8 s c e l) = (omega arith, omega arith)
 
 module _ (f : List ℕ) where
+  -- the place of the first row that is broken
   abbrev first : ℕ
   first = firstBroken (rows f)
 
+  -- that is what it is
   first-says-rows : Least (λ k. getD (map (λ (r : Row). r .broken) (rows f)) k false) 8 first
   unfolding headerRows chunkRows
   first-says-rows = first-says (map (λ (r : Row). r .broken) (rows f))
 
+  -- the rows before it hold
   holds-below : HoldBelow f first
   holds-below j l = sym (List·getD-map (λ (r : Row). r .broken) (rows f) j (row false 0)) ∙ first-says-rows .fails j l
 
+  -- it is broken
   first-broken : first < 8 → rowAt f first .broken ≡ true
   first-broken l = sym (List·getD-map (λ (r : Row). r .broken) (rows f) first (row false 0)) ∙ first-says-rows .holds l
 
+  -- its item, as the definition takes it
   first-item : getD (map (λ (r : Row). r .item) (rows f)) first 0 ≡ rowAt f first .item
   first-item = List·getD-map (λ (r : Row). r .item) (rows f) first (row false 0)
 
@@ -62,6 +67,7 @@ module _ (f : List ℕ) where
       let t = broken-told f n i b (λ j z. holds-below j (omega arith)) in
       true≢false (sym (t .broken) ∙ holds-below (n - 1) (omega (arith, numbered f n i b)))
 
+  -- so it is the smallest rule broken, with its smallest item
   smallest : first < 8 → Smallest (Broken f) (suc first) (rowAt f first .item)
   smallest l =
       record {
@@ -72,16 +78,19 @@ module _ (f : List ℕ) where
             omega (arith, z, rw e at (t .item));
       }
 
+  -- the answer then
   refuses : first < 8 → containerOf f ≡ refused (suc first) (rowAt f first .item)
   unfolding containerOf
   refuses l =
       let e : 1 + first ≡ suc first = omega arith in
       rw (lt-ltb first 8 l, first-item, e)
 
+  -- the answer where no row is broken
   accepts : 8 ≤ first → containerOf f ≡ opened f
   unfolding containerOf
   accepts l = rw (le-ltb first 8 l)
 
+  -- no rule is broken then
   none-broken : 8 ≤ first → (n i : ℕ) → Broken f n i → ⊥
   none-broken l n i b = none-before n i (omega (arith, numbered f n i b)) b
 
@@ -89,24 +98,30 @@ module _ (f : List ℕ) where
 starts-at-first : (f : List ℕ) (at : ℕ) → Starts f 0 at → at ≡ 12
 starts-at-first f at starts-first = refl
 
+-- chunk 1 starts behind the data of chunk 0
 starts-at-second : (f : List ℕ) (at : ℕ) → Starts f 1 at → at ≡ 20 + chunkLengthAt f 12
 starts-at-second f at (starts-next {at = p} s c) = rw (starts-at-first f p s)
 
 module _ (f : List ℕ) (l : 8 ≤ firstBroken (rows f)) where
+  -- every row holds
   row-holds : (k : ℕ) → k < 8 → rowAt f k .broken ≡ false
   row-holds k h = holds-below f k (omega arith)
 
+  -- rule 1
   long : 20 ≤ length f
   unfolding headerRows chunkRows
   long = ltb-false (length f) 20 (or-false (ltb (length f) 20) (ltb 16777216 (length f)) (row-holds 0 (omega arith)) .0)
 
+  -- rule 5
   filled : 12 + bytesOf (chunksOf f) ≡ length f
   unfolding headerRows chunkRows
   filled = eqb-true _ _ (not-false _ (row-holds 4 (omega arith)))
 
+  -- the header is there
   g : 12 ≤ length f
   g = omega (arith, long)
 
+  -- chunk 0 is JSON, and its data are where the answer says
   json : DataOf f 0 JSON 20 (chunkAt f 0 .chunkLength)
   unfolding headerRows chunkRows
   json =
@@ -122,6 +137,7 @@ module _ (f : List ℕ) (l : 8 ≤ firstBroken (rows f)) where
         bytes = chunk-length f g 0 (c .at) (c .starts) (c .is);
       }
 
+  -- a chunk 1 that is BIN, and its data
   bin : isBin (chunkAt f 1) ≡ true → DataOf f 1 BIN (28 + chunkAt f 0 .chunkLength) (chunkAt f 1 .chunkLength)
   bin t =
       let more = by-test (ltb 1 (count f)) (λ u. ltb-true 1 (count f) u)
@@ -138,6 +154,7 @@ module _ (f : List ℕ) (l : 8 ≤ firstBroken (rows f)) where
         bytes = chunk-length f g 1 (c .at) (c .starts) (c .is);
       }
 
+  -- where chunk 1 is not BIN no chunk is
   no-bin : isBin (chunkAt f 1) ≡ false → (i at : ℕ) → Starts f i at → IsChunk f at → chunkTypeAt f at ≡ BIN → ⊥
   unfolding headerRows chunkRows
   no-bin t i at s c e =
@@ -146,6 +163,7 @@ module _ (f : List ℕ) (l : 8 ≤ firstBroken (rows f)) where
       let one : i ≡ 1 = by-test (eqb i 1) (λ u. eqb-true i 1 u) (λ u. absurd (true≢false (rw (is, u) at m))) in
       true≢false (sym is ∙ ap (λ (k : ℕ). isBin (chunkAt f k)) one ∙ t)
 
+  -- the places are the chunks'
   lies : Lies f (opened f)
   unfolding opened
   lies = by-test (isBin (chunkAt f 1)) (λ t. rw t (with-bin json (bin t))) (λ t. rw t (without-bin json (no-bin t)))

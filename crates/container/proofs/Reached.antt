@@ -23,6 +23,7 @@ chunk-whole f at c =
     whole-long f at (omega (arith, c .header))
     ∙ rw (eq-eqb _ _ (c .multiple), le-leb (chunkLengthAt f at) (length f - at - 8) (omega (arith, c .header, c .inside)))
 
+-- and back
 pub whole-chunk : (f : List ℕ) (at : ℕ) → startsWhole (drop at f) ≡ true → IsChunk f at
 whole-chunk f at e =
     by-test (ltb (length f - at) 8)
@@ -38,6 +39,7 @@ pub record At (f : List ℕ) (i at : ℕ) : Type 0 where
   pub bin : ℕ
   pub stage : Stage f at i json bin
 
+-- where a chunk starts in the paper's words there is a stage
 pub reached : (f : List ℕ) (i at : ℕ) → 12 ≤ length f → Starts f i at → At f i at
 reached f zero at l starts-first = record { json = 0; bin = 0; stage = stage-first f l }
 reached f (suc i) at l (starts-next {at = p} s c) =
@@ -61,30 +63,37 @@ place f l (suc i) h =
 
 -- a chunk of the file is the one of that number, with its two numbers
 module _ (f : List ℕ) (l : 12 ≤ length f) (i at : ℕ) (s : Starts f i at) (c : IsChunk f at) where
+  -- the stage there
   here : At f i at
   here = reached f i at l s
 
+  -- a whole chunk starts there
   whole : startsWhole (drop at f) ≡ true
   whole = chunk-whole f at c
 
+  -- it is one of the chunks
   pub chunk-below : i < count f
   chunk-below = omega (arith, length-drop i (chunksOf f), ap length (here .stage .rest ∙ chunks-more (drop at f) whole))
 
+  -- its chunkLength
   pub chunk-length : chunkAt f i .chunkLength ≡ chunkLengthAt f at
   chunk-length =
       ap (λ (k : Chunk). k .chunkLength) (chunk-at f at i (here .json) (here .bin) (here .stage) whole)
       ∙ sym (length-at f at i (here .json) (here .bin) (here .stage) whole)
 
+  -- its chunkType
   pub chunk-type : chunkAt f i .chunkType ≡ chunkTypeAt f at
   chunk-type =
       ap (λ (k : Chunk). k .chunkType) (chunk-at f at i (here .json) (here .bin) (here .stage) whole)
       ∙ sym (type-at f at i (here .json) (here .bin) (here .stage) whole)
 
+-- chunk i, where it starts
 pub record There (f : List ℕ) (i : ℕ) : Type 0 where
   pub at : ℕ
   pub starts : Starts f i at
   pub is : IsChunk f at
 
+-- each chunk of the list is one in the paper's words
 pub chunk-there : (f : List ℕ) → 12 ≤ length f → (i : ℕ) → i < count f → There f i
 chunk-there f l i h =
     let p = place f l i (omega arith) in
@@ -92,6 +101,7 @@ chunk-there f l i h =
 
 -- where no chunk starts all are passed
 module _ (f : List ℕ) (l : 12 ≤ length f) where
+  -- as many as there are
   pub stop-count : (i at : ℕ) → Starts f i at → (IsChunk f at → ⊥) → i ≡ count f
   stop-count i at s not =
       let a = reached f i at l s in
@@ -99,6 +109,7 @@ module _ (f : List ℕ) (l : 12 ≤ length f) where
       (λ t. absurd (not (whole-chunk f at (more-whole f i at a (ltb-true i (count f) t)))))
       (λ t. omega (arith, ltb-false i (count f) t, a .stage .known))
 
+  -- and the place is the end of the last
   pub stop-bytes : (i at : ℕ) → Starts f i at → (IsChunk f at → ⊥) → 12 + bytesOf (chunksOf f) ≡ at
   unfolding bytesOf
   stop-bytes i at s not =
@@ -106,5 +117,6 @@ module _ (f : List ℕ) (l : 12 ≤ length f) where
       by-test (startsWhole (drop at f)) (λ t. absurd (not (whole-chunk f at t)))
       (λ t. omega (arith, a .stage .bytes, ap bytesOf (chunks-none (drop at f) t)))
 
+  -- behind the last chunk none starts
   pub last-none : (at : ℕ) → Starts f (count f) at → IsChunk f at → ⊥
   last-none at s c = omega (arith, chunk-below f l (count f) at s c)

@@ -24,6 +24,7 @@ use Rattle.container.proofs.Reached.{reached, place, There, chunk-there
 abbrev pub rowAt : List ℕ → ℕ → Row
 rowAt f k = getD (rows f) k (row false 0)
 
+-- the rows before row k hold
 abbrev pub HoldBelow : List ℕ → ℕ → Type 0
 HoldBelow f k = (j : ℕ) → j < k → rowAt f j .broken ≡ false
 
@@ -33,6 +34,7 @@ pub record Told (f : List ℕ) (k i : ℕ) : Type 0 where
   pub item : rowAt f k .item ≤ i
 
 module _ (f : List ℕ) where
+  -- with rule 1 there is room for the header
   long : HoldBelow f 1 → 12 ≤ length f
   unfolding headerRows
   long h = omega (arith, ltb-false (length f) 20 (or-false (ltb (length f) 20) (ltb 16777216 (length f)) (h 0 (omega arith)) .0))
@@ -41,16 +43,20 @@ module _ (f : List ℕ) where
   json-first : (t : ℕ) → (t ≡ JSON → ⊥) → (eqb 0 0 && not (eqb t JSON) || ltb 0 0 && eqb t JSON) ≡ true
   json-first t ne = rw (ne-eqb t JSON ne)
 
+  -- a later chunk that is JSON
   json-later : (i t : ℕ) → 0 < i → t ≡ JSON → (eqb i 0 && not (eqb t JSON) || ltb 0 i && eqb t JSON) ≡ true
   json-later i t l e = rw (ne-eqb i 0 (λ z. omega arith), lt-ltb 0 i l, eq-eqb t JSON e)
 
+  -- the least number that passes is at most one that does
   from-test : (p : ℕ → Bool) (n i : ℕ) → i < n → p i ≡ true → least p n ≤ i
   from-test p n i l e =
       by-test (ltb i (least p n)) (λ t. absurd (true≢false (sym e ∙ least-says p n .fails i (ltb-true i (least p n) t)))) (λ t. ltb-false i (least p n) t)
 
+  -- a BIN chunk that is not chunk 1
   bin-elsewhere : (i t : ℕ) → t ≡ BIN → (i ≡ 1 → ⊥) → (eqb t BIN && not (eqb i 1)) ≡ true
   bin-elsewhere i t e o = rw (eq-eqb t BIN e, ne-eqb i 1 o)
 
+  -- at most and not equal is less
   not-equal-less : (a b : ℕ) → a ≤ b → (a ≡ b → ⊥) → a < b
   not-equal-less a b l e = by-test (ltb a b) (λ t. ltb-true a b t) (λ t. absurd (e (omega (arith, ltb-false a b t))))
 
@@ -68,6 +74,7 @@ module _ (f : List ℕ) where
       ∙ any-no (misplacedJson f) (count f) (h 5 (omega arith)) i (chunk-below f g i at s c))))
       (λ t. omega (arith, ltb-false 0 i t))
 
+  -- a rule that is broken breaks its row
   pub broken-told : (n i : ℕ) → Broken f n i → HoldBelow f (n - 1) → Told f (n - 1) i
   unfolding headerRows chunkRows
   broken-told n i (rule1-few l) h = record { broken = rw (lt-ltb _ _ l); item = omega arith }
@@ -114,11 +121,13 @@ module _ (f : List ℕ) where
       (λ b. inr (omega arith, eqb-true t JSON b))
       (λ b. absurd (true≢false (sym e ∙ rw (a, b, lt-ltb 0 i (omega arith))))))
 
+  -- rule 6 at chunk 0
   six-first : (i at : ℕ) → i ≡ 0 → Starts f i at → IsChunk f at → (chunkTypeAt f at ≡ JSON → ⊥) → Broken f 6 i
   six-first i at z =
       subst (λ (k : ℕ). Starts f k at → IsChunk f at → (chunkTypeAt f at ≡ JSON → ⊥) → Broken f 6 k) (sym z) (λ s c e. rule6-first s c e)
 
   module _ (g : 12 ≤ length f) where
+    -- row 6 that is broken breaks rule 6
     six : anyBelow (misplacedJson f) (count f) ≡ true → Broken f 6 (least (misplacedJson f) (count f))
     six e =
         let i = least (misplacedJson f) (count f) in
@@ -130,6 +139,7 @@ module _ (f : List ℕ) where
         (λ w. rule6-later (w .0) (c .starts) (c .is) (sym t ∙ w .1))
         (json-told i (chunkAt f i .chunkType) (a .1))
 
+    -- row 7
     seven : anyBelow (misplacedBin f) (count f) ≡ true → Broken f 7 (least (misplacedBin f) (count f))
     seven e =
         let i = least (misplacedBin f) (count f) in
@@ -139,6 +149,7 @@ module _ (f : List ℕ) where
         let b = and-true (isBin (chunkAt f i)) (not (eqb i 1)) (a .1) in
         rule7 (c .starts) (c .is) (sym t ∙ eqb-true _ _ (b .0)) (eqb-false i 1 (not-true _ (b .1)))
 
+    -- row 5
     five : (12 + bytesOf (chunksOf f) ≡ length f → ⊥) → Broken f 5 (count f)
     five e =
         let p = place f g (count f) (omega arith) in
@@ -158,6 +169,7 @@ module _ (f : List ℕ) where
         let o = or-false _ _ (any-no (misplacedJson f) (count f) (h 5 (omega arith)) 0 some) in
         rule8 (c .starts) (c .is) (sym t ∙ eqb-true _ _ (not-false _ (o .0))) (omega (arith, l, chunk-length f g 0 (c .at) (c .starts) (c .is)))
 
+  -- a row that is broken breaks its rule, with its item
   pub row-broken : (k : ℕ) → k < 8 → HoldBelow f k → rowAt f k .broken ≡ true → Broken f (suc k) (rowAt f k .item)
   unfolding headerRows chunkRows
   row-broken zero l h e =

@@ -30,6 +30,7 @@ pub record Stage (f : List ℕ) (at n json bin : ℕ) : Type 0 where
   pub the-json : json ≡ least (misplacedJson f) n
   pub the-bin : bin ≡ least (misplacedBin f) n
 
+-- before the first chunk
 pub stage-first : (f : List ℕ) → 12 ≤ length f → Stage f 12 0 0 0
 unfolding chunksOf
 stage-first f l =
@@ -45,29 +46,37 @@ stage-first f l =
 
 -- the chunk that starts at `at` is chunk n
 module _ (f : List ℕ) (at n json bin : ℕ) (s : Stage f at n json bin) (whole : startsWhole (drop at f) ≡ true) where
+  -- its header
   abbrev head : Chunk
   head = headerAt (drop at f)
 
+  -- what is left of the list of chunks
   more : drop n (chunksOf f) ≡ head ∷ chunksFrom 0 (drop (8 + head .chunkLength) (drop at f))
   more = s .rest ∙ chunks-more (drop at f) whole
 
+  -- there are more chunks than were passed
   below : n < count f
   below = omega (arith, length-drop n (chunksOf f), ap length more)
 
+  -- no chunk
   abbrev none : Chunk
   none = record { chunkLength = 0; chunkType = 0 }
 
+  -- it is chunk n of the file
   pub chunk-at : chunkAt f n ≡ head
   chunk-at = drop-head (chunksOf f) n head (chunksFrom 0 (drop (8 + head .chunkLength) (drop at f))) none more
 
+  -- what follows it
   later : drop (8 + head .chunkLength) (drop at f) ≡ drop (at + 8 + head .chunkLength) f
   later =
       let e : at + (8 + head .chunkLength) ≡ at + 8 + head .chunkLength = omega arith in
       drop-drop (8 + head .chunkLength) at f ∙ ap (λ (k : ℕ). drop k f) e
 
+  -- the chunks behind it
   next-rest : drop (n + 1) (chunksOf f) ≡ chunksFrom 0 (drop (at + 8 + head .chunkLength) f)
   next-rest = drop-tail (chunksOf f) n head (chunksFrom 0 (drop (8 + head .chunkLength) (drop at f))) none more ∙ ap (chunksFrom 0) later
 
+  -- and their bytes
   next-bytes : 12 + bytesOf (chunksOf f) ≡ at + 8 + head .chunkLength + bytesOf (chunksFrom 0 (drop (at + 8 + head .chunkLength) f))
   unfolding bytesOf
   next-bytes = rw (← later) (omega (arith, s .bytes, ap bytesOf (chunks-more (drop at f) whole)))
@@ -77,10 +86,12 @@ module _ (f : List ℕ) (at n json bin : ℕ) (s : Stage f at n json bin) (whole
   unfolding headerAt
   length-at = let e : at + 0 ≡ at = omega arith in sym (rw e at (littleAt-drop f at 0 4))
 
+  -- its chunkType
   pub type-at : littleAt f (at + 4) 4 ≡ head .chunkType
   unfolding headerAt
   type-at = sym (littleAt-drop f at 4 4)
 
+  -- the stage behind it
   pub stage-next : (t : ℕ) → t ≡ head .chunkType
       → Stage f (at + 8 + head .chunkLength) (n + 1)
       (cond (eqb json n && not (eqb n 0 && not (eqb t 0x4E4F534A) || ltb 0 n && eqb t 0x4E4F534A)) (n + 1) json)

@@ -16,6 +16,7 @@ use Rattle.container.specs.Rules.{chunkAt, count, isBin}
 use Rattle.container.proofs.Chunks.{chunks-none, whole-short, whole-within}
 use Rattle.container.proofs.Stages.{Stage, stage-first, stage-next, chunk-at, length-at, type-at}
 
+-- a list of no length
 length-none : (cs : List Chunk) → length cs ≤ 0 → cs ≡ []
 length-none [] h = refl
 length-none (c ∷ cs) h = absurd (omega arith)
@@ -29,9 +30,11 @@ stage-whole f at n json bin s filled l =
     (λ t. absurd (omega (arith, s .bytes, filled, ap bytesOf (chunks-none (drop at f) t))))
 
 module _ (f : List ℕ) (l : 20 ≤ length f) (filled : 12 + bytesOf (chunksOf f) ≡ length f) where
+  -- the stage before chunk 0
   first : Stage f 12 0 0 0
   first = stage-first f (omega arith)
 
+  -- chunk 0 is there
   first-whole : startsWhole (drop 12 f) ≡ true
   first-whole = stage-whole f 12 0 0 0 first filled (omega arith)
 
@@ -42,30 +45,37 @@ module _ (f : List ℕ) (l : 20 ≤ length f) (filled : 12 + bytesOf (chunksOf f
       by-test (ltb 0 (count f)) (λ t. ltb-true 0 (count f) t)
       (λ t. absurd (omega (arith, filled, l, ap bytesOf (length-none (chunksOf f) (ltb-false 0 (count f) t)))))
 
+  -- its chunkLength
   pub json-length : littleAt f 12 4 ≡ chunkAt f 0 .chunkLength
   json-length = length-at f 12 0 0 0 first first-whole ∙ ap (λ (c : Chunk). c .chunkLength) (sym (chunk-at f 12 0 0 0 first first-whole))
 
+  -- where chunk 1 would start
   abbrev at : ℕ
   at = 20 + chunkAt f 0 .chunkLength
 
+  -- the stage there
   second : (j : ℕ) × (b : ℕ) × Stage f at 1 j b
   second =
       let e : 20 + headerAt (drop 12 f) .chunkLength ≡ at = ap (λ (c : Chunk). 20 + c .chunkLength) (sym (chunk-at f 12 0 0 0 first first-whole)) in
       (_, _, rw e at (stage-next f 12 0 0 0 first first-whole (headerAt (drop 12 f) .chunkType) refl))
 
+  -- it is in the file or at its end
   pub json-within : at ≤ length f
   json-within = second .2 .within
 
+  -- a header of chunk 1 is in the file
   pub bin-room : at < length f → at + 8 ≤ length f
   bin-room h = let s = second .2 in
       omega (arith, whole-within f at (s .within) (stage-whole f at 1 (second .0) (second .1) s filled h))
 
+  -- its chunkLength
   pub bin-length : at < length f → littleAt f at 4 ≡ chunkAt f 1 .chunkLength
   bin-length h =
       let s = second .2 in
       let w = stage-whole f at 1 (second .0) (second .1) s filled h in
       length-at f at 1 (second .0) (second .1) s w ∙ ap (λ (c : Chunk). c .chunkLength) (sym (chunk-at f at 1 (second .0) (second .1) s w))
 
+  -- its chunkType
   pub bin-type : at < length f → littleAt f (at + 4) 4 ≡ chunkAt f 1 .chunkType
   bin-type h =
       let s = second .2 in

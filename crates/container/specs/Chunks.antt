@@ -7,6 +7,7 @@ use lib.Dec.{leb, eqb}
 use lib.ListN.{length}
 use Rattle.laws.specs.Bytes.{littleAt}
 
+-- a chunk's two numbers
 pub record Chunk : Type 0 where
   pub chunkLength : ℕ
   pub chunkType : ℕ

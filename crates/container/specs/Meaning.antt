@@ -10,6 +10,7 @@ use Rattle.laws.specs.Bytes.{littleAt}
 abbrev pub chunkLengthAt : List ℕ → ℕ → ℕ
 chunkLengthAt f at = littleAt f at 4
 
+-- its second number
 abbrev pub chunkTypeAt : List ℕ → ℕ → ℕ
 chunkTypeAt f at = littleAt f (at + 4) 4
 
@@ -24,12 +25,15 @@ pub data Starts (f : List ℕ) : ℕ → ℕ → Type 0 where
   starts-first : Starts f 0 12
   starts-next : {i at : ℕ} → Starts f i at → IsChunk f at → Starts f (suc i) (at + 8 + chunkLengthAt f at)
 
+-- the type of the JSON chunk
 abbrev pub JSON : ℕ
 JSON = 0x4E4F534A
 
+-- the type of the BIN chunk
 abbrev pub BIN : ℕ
 BIN = 0x004E4942
 
+-- one constructor or two for each line of the rule table
 pub data Broken (f : List ℕ) : ℕ → ℕ → Type 0 where
   -- fewer than 20 or more than 16,777,216 bytes
   rule1-few : length f < 20 → Broken f 1 0

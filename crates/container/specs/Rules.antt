@@ -14,9 +14,11 @@ use Rattle.container.specs.Chunks.{Chunk, chunksOf, bytesOf}
 abbrev pub chunkAt : List ℕ → ℕ → Chunk
 chunkAt file i = getD (chunksOf file) i (record { chunkLength = 0; chunkType = 0 })
 
+-- type 0x4E4F534A
 abbrev pub isJson : Chunk → Bool
 isJson c = eqb (c .chunkType) 0x4E4F534A
 
+-- type 0x004E4942
 abbrev pub isBin : Chunk → Bool
 isBin c = eqb (c .chunkType) 0x004E4942
 
@@ -33,12 +35,15 @@ pub record Row : Type 0 where
   pub broken : Bool
   pub item : ℕ
 
+-- a row by its two parts
 abbrev pub row : Bool → ℕ → Row
 row b i = record { broken = b; item = i }
 
+-- how many chunks there are
 abbrev pub count : List ℕ → ℕ
 count file = length (chunksOf file)
 
+-- rules 1 to 4
 unfoldable pub headerRows : List ℕ → List Row
 headerRows file =
     -- 1: fewer than 20 or more than 16,777,216 bytes
@@ -51,6 +56,7 @@ headerRows file =
     ∷ row (not (eqb (littleAt file 8 4) (length file))) 0
     ∷ []
 
+-- rules 5 to 8
 unfoldable pub chunkRows : List ℕ → List Row
 chunkRows file =
     -- 5: chunks from byte 12 do not fill the file

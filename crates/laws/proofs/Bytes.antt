@@ -20,6 +20,7 @@ littleAt-suc [] p k = rw (drop-nil {A = ℕ} p, drop-nil {A = ℕ} (suc p), take
 littleAt-suc (b ∷ f) zero k = refl
 littleAt-suc (b ∷ f) (suc p) k = littleAt-suc f p k
 
+-- no bytes
 pub littleAt-zero : (f : List ℕ) (p : ℕ) → littleAt f p 0 ≡ 0
 unfolding littleAt little
 littleAt-zero f p = refl
@@ -47,6 +48,7 @@ littleAt-more f p s i h k =
 abbrev pub Agree : List ℕ → List ℕ → ℕ → ℕ → Type 0
 Agree f g p n = (i : ℕ) → p ≤ i → i < p + n → getD f i 0 ≡ getD g i 0
 
+-- they spell the same number there
 pub littleAt-agree : (f g : List ℕ) (p k : ℕ) → Agree f g p k → littleAt f p k ≡ littleAt g p k
 littleAt-agree f g p zero h = rw (littleAt-zero f p, littleAt-zero g p) refl
 littleAt-agree f g p (suc k) h =

@@ -14,8 +14,10 @@ getD-any (x ∷ list) (suc i) a b l = getD-any list i a b (le-of-suc-le-suc l)
 
 -- a list that is known from a place on: its entry there, and what follows
 module _ {A : Type 0} (xs : List A) (n : ℕ) (x : A) (ys : List A) (d : A) (e : drop n xs ≡ x ∷ ys) where
+  -- the entry there
   pub drop-head : getD xs n d ≡ x
   drop-head = ap (λ (k : ℕ). getD xs k d) (sym (add-zero n)) ∙ sym (getD-drop n xs 0 d) ∙ ap (λ (l : List A). getD l 0 d) e
 
+  -- what follows it
   pub drop-tail : drop (n + 1) xs ≡ ys
   drop-tail = sym (drop-drop 1 n xs) ∙ ap (λ (l : List A). drop 1 l) e

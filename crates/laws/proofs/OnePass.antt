@@ -14,15 +14,19 @@ use Rattle.laws.proofs.Search.{Least, least-says, least-is, least-none,
 
 -- One item more. `fault` is the smallest rule that item n breaks, m if none.
 module _ (broken : ℕ → ℕ → Bool) (m n : ℕ) where
+  -- the smallest rule that item n breaks
   abbrev fault : ℕ
   fault = least (λ k. broken k n) m
 
+  -- the verdict's rule over the items before it
   abbrev was : ℕ
   was = firstRule broken m n
 
+  -- what the first is
   fault-says : Least (λ k. broken k n) m fault
   fault-says = least-says (λ k. broken k n) m
 
+  -- what the second is
   was-says : Least (λ k. anyBelow (broken k) n) m was
   unfolding firstRule
   was-says = least-says (λ k. anyBelow (broken k) n) m
@@ -31,6 +35,7 @@ module _ (broken : ℕ → ℕ → Bool) (m n : ℕ) where
   clean : (k : ℕ) → k < fault → k < was → anyBelow (broken k) (n + 1) ≡ false
   clean k a b = any-none (broken k) (n + 1) (below-more _ n (any-no (broken k) n (was-says .fails k b)) (fault-says .fails k a))
 
+  -- a smaller rule takes its place
   pub rule-lower : fault < was → firstRule broken m (n + 1) ≡ fault
   unfolding firstRule
   rule-lower h =
@@ -41,6 +46,7 @@ module _ (broken : ℕ → ℕ → Bool) (m n : ℕ) where
         fails = λ k l. clean k l (omega arith);
       })
 
+  -- else the rule stays
   pub rule-keep : was ≤ fault → firstRule broken m (n + 1) ≡ was
   unfolding firstRule
   rule-keep h =
@@ -51,6 +57,7 @@ module _ (broken : ℕ → ℕ → Bool) (m n : ℕ) where
         fails = λ k l. clean k (omega arith) l;
       })
 
+  -- the item is then n
   pub item-lower : fault < was → firstItem broken m (n + 1) ≡ n
   unfolding firstItem
   item-lower h =
@@ -62,12 +69,14 @@ module _ (broken : ℕ → ℕ → Bool) (m n : ℕ) where
         fails = any-no (broken fault) n (was-says .fails fault h);
       }))
 
+  -- the rule's first item stays the first
   same : was < m → least (broken was) (n + 1) ≡ least (broken was) n
   same l =
       let s = any-at (broken was) n (was-says .holds l) in
       least-is (broken was) (n + 1) (least (broken was) n)
       (record { le = omega arith; holds = λ _. s .1; fails = least-says (broken was) n .fails })
 
+  -- the item stays
   pub item-keep : was ≤ fault → firstItem broken m (n + 1) ≡ firstItem broken m n
   unfolding firstItem
   item-keep h = rw (rule-keep h) (by-test (ltb was m) (λ t. rw t (same (ltb-true was m t))) (λ f. rw f))
@@ -78,24 +87,29 @@ pub record Seen (broken : ℕ → ℕ → Bool) (base m n rule item : ℕ) : Typ
   pub the-rule : rule ≡ base + firstRule broken m n
   pub the-item : item ≡ firstItem broken m n
 
+-- over no items no rule is broken
 none-rule : (broken : ℕ → ℕ → Bool) (m : ℕ) → firstRule broken m 0 ≡ m
 unfolding firstRule
 none-rule broken m = least-none _ m (λ k l. refl)
 
+-- and the item is 0
 none-item : (broken : ℕ → ℕ → Bool) (m : ℕ) → firstItem broken m 0 ≡ 0
 unfolding firstItem
 none-item broken m = rw (none-rule broken m, le-ltb m m (omega arith))
 
 module _ (broken : ℕ → ℕ → Bool) (base m : ℕ) where
+  -- before the first item
   pub seen-none : Seen broken base m 0 (base + m) 0
   seen-none = record { the-rule = rw (none-rule broken m); the-item = rw (none-item broken m) }
 
+  -- an item that breaks a smaller rule
   pub seen-lower : {n rule item : ℕ} (f : ℕ) → Seen broken base m n rule item → f ≡ base + least (λ k. broken k n) m → f < rule
       → Seen broken base m (n + 1) f n
   seen-lower {n} f s e l =
       let low : least (λ k. broken k n) m < firstRule broken m n = omega (arith, s .the-rule) in
       record { the-rule = rw (rule-lower broken m n low) e; the-item = rw (item-lower broken m n low) }
 
+  -- an item that breaks none that is smaller
   pub seen-keep : {n rule item : ℕ} (f : ℕ) → Seen broken base m n rule item → f ≡ base + least (λ k. broken k n) m → rule ≤ f
       → Seen broken base m (n + 1) rule item
   seen-keep {n} f s e l =

@@ -22,11 +22,13 @@ pub record Twice (f : ℕ → ℕ) (m : ℕ) : Type 0 where
 without : ℕ → ℕ → ℕ
 without v x = cond (ltb v x) (x - 1) x
 
+-- the others then fit one place less
 without-lt : (v x m : ℕ) → v < suc m → x < suc m → (x ≡ v → ⊥) → without v x < m
 unfolding without
 without-lt v x m hv hx ne =
     by-test (ltb v x) (λ t. rw t (omega (arith, ltb-true v x t))) (λ t. rw t (omega (arith, ltb-false v x t)))
 
+-- and stay different
 without-inj : (v x y : ℕ) → (x ≡ v → ⊥) → (y ≡ v → ⊥) → without v x ≡ without v y → x ≡ y
 unfolding without
 without-inj v x y nx ny =
@@ -41,6 +43,7 @@ data Found (f : ℕ → ℕ) (v n : ℕ) : Type 0 where
   at : (i : ℕ) → i < n → f i ≡ v → Found f v n
   nowhere : ((i : ℕ) → i < n → f i ≡ v → ⊥) → Found f v n
 
+-- one of the two
 find : (f : ℕ → ℕ) (v n : ℕ) → Found f v n
 find f v zero = nowhere (λ i l e. omega arith)
 find f v (suc n) = go (find f v n)
@@ -78,9 +81,11 @@ pigeons (suc m) f h = go (find f (f (suc m)) (suc m)) (pigeons m)
 abbrev pub AllBelow : ℕ → List ℕ → Type 0
 AllBelow m xs = (i : ℕ) → i < length xs → getD xs i 0 < m
 
+-- no entry stands twice
 abbrev pub NoRepeat : List ℕ → Type 0
 NoRepeat xs = (i j : ℕ) → i < j → j < length xs → getD xs i 0 ≡ getD xs j 0 → ⊥
 
+-- the law for lists
 pub pigeonhole : (m : ℕ) (xs : List ℕ) → AllBelow m xs → NoRepeat xs → length xs ≤ m
 pigeonhole m xs below once =
     by-test (ltb m (length xs))

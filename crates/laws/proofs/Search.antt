@@ -73,15 +73,19 @@ any-yes p n j l e =
     by-test (anyBelow p n) (λ t. t)
     (λ f. absurd (true≢false (sym e ∙ least-says p n .fails j (omega (arith, ltb-false (least p n) n f)))))
 
+-- where none passes each fails
 pub any-no : (p : ℕ → Bool) (n : ℕ) → anyBelow p n ≡ false → (j : ℕ) → j < n → p j ≡ false
 any-no p n e j l = least-says p n .fails j (omega (arith, ltb-false (least p n) n e))
 
+-- where each fails none passes
 pub any-none : (p : ℕ → Bool) (n : ℕ) → ((j : ℕ) → j < n → p j ≡ false) → anyBelow p n ≡ false
 any-none p n f = le-ltb (least p n) n (omega (arith, least-none p n f))
 
+-- where one passes the least does
 pub any-at : (p : ℕ → Bool) (n : ℕ) → anyBelow p n ≡ true → (least p n < n) × (p (least p n) ≡ true)
 any-at p n e = let l = ltb-true (least p n) n e in (l, least-says p n .holds l)
 
+-- what `firstTrue` is
 pub first-says : (tests : List Bool) → Least (λ k. getD tests k false) (length tests) (firstTrue tests)
 first-says tests = least-says (λ k. getD tests k false) (length tests)
 
@@ -91,6 +95,7 @@ first-early [] ys l = absurd (not-suc-le-zero l)
 first-early (true ∷ xs) ys l = refl
 first-early (false ∷ xs) ys l = ap suc (first-early xs ys (le-of-suc-le-suc l))
 
+-- where none of the first list holds
 pub first-late : (xs ys : List Bool) → length xs ≤ firstTrue xs → firstTrue (xs ++ ys) ≡ length xs + firstTrue ys
 first-late [] ys l = sym (zero-add (firstTrue ys))
 first-late (true ∷ xs) ys l = absurd (not-suc-le-zero l)

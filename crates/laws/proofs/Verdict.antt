@@ -13,6 +13,7 @@ not-less a b f g =
     by-test (ltb a b) (λ t. absurd (f (ltb-true a b t)))
     (λ t. by-test (ltb b a) (λ u. absurd (g (ltb-true b a u))) (λ u. omega (arith, ltb-false a b t, ltb-false b a u)))
 
+-- so there is one verdict
 pub smallest-unique : (Broken : ℕ → ℕ → Type 0) (n i m j : ℕ) → Smallest Broken n i → Smallest Broken m j → (n ≡ m) × (i ≡ j)
 smallest-unique Broken n i m j s t =
     let e = not-less n m (λ l. t .rules n i l (s .broken)) (λ l. s .rules m j l (t .broken)) in (

@@ -61,6 +61,7 @@ clean9 s m l (rule11 f) = omega arith
 clean9 s m l (rule12 d f) = omega arith
 clean9 s m l (rule13 d f) = omega arith
 
+-- with rule 9
 clean10 : (s : List ℕ) → Octets s [] → Clean s 10
 clean10 s o m l (rule9 f) = f o
 clean10 s o m l (rule10 f) = omega arith
@@ -68,6 +69,7 @@ clean10 s o m l (rule11 f) = omega arith
 clean10 s o m l (rule12 d f) = omega arith
 clean10 s o m l (rule13 d f) = omega arith
 
+-- with rules 9 and 10
 clean11 : (s : List ℕ) → Octets s [] → peak outside 0 s ≤ 32 → Clean s 11
 clean11 s o p m l (rule9 f) = f o
 clean11 s o p m l (rule10 f) = omega arith
@@ -75,6 +77,7 @@ clean11 s o p m l (rule11 f) = omega arith
 clean11 s o p m l (rule12 d f) = omega arith
 clean11 s o p m l (rule13 d f) = omega arith
 
+-- with rules 9 to 11
 clean12 : (s : List ℕ) (ms : Fields) → Octets s [] → peak outside 0 s ≤ 32 → Text s (Json.object ms) → Clean s 12
 clean12 s ms o p x m l (rule9 f) = f o
 clean12 s ms o p x m l (rule10 f) = omega arith
@@ -90,6 +93,7 @@ clean13 s ms c x none m l (rule11 f) = c 11 (omega arith) (rule11 f)
 clean13 s ms c x none m l (rule12 d f) = none (subst Breaks12 (text-unique d x) f)
 clean13 s ms c x none m l (rule13 d f) = omega arith
 
+-- with all of them
 clean-all : (s : List ℕ) (ms : Fields) → Clean s 13 → Text s (Json.object ms) → (Breaks13 (Json.object ms) → ⊥) → (n : ℕ) → Broken s n → ⊥
 clean-all s ms c x none n (rule9 f) = c 9 (omega arith) (rule9 f)
 clean-all s ms c x none n (rule10 f) = c 10 (omega arith) (rule10 f)
@@ -110,6 +114,7 @@ by12-exact : (s : List ℕ) (ms : Fields) (x : Text s (Json.object ms)) → Clea
 by12-exact s ms x c (on q) o (holds12 f) next k = k (clean13 s ms c x f)
 by12-exact s ms x c (found v q) o (breaks12 f) next k = refused (rule12 x f) c (at12 x (ap (place s) (sym o)))
 
+-- rules 12 and 13 of a text
 names-exact : (s : List ℕ) (ms : Fields) → length s ≤ 65536 → Text s (Json.object ms) → depth (Json.object ms) ≤ 32 → Clean s 12
     → Exact s (nameFault s)
 unfolding nameFault

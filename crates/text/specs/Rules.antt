@@ -21,6 +21,7 @@ use Rattle.names.specs.declared.Search.the-variants.{Clear, Repeats, Full}
 use Rattle.names.specs.Names.{escapedOf, repeatOf}
 use Rattle.text.specs.declared.Fault.{Fault}
 
+-- an answer by its two parts
 abbrev pub fault : ℕ → ℕ → Fault
 fault n p = record { number = n; place = p }
 
