@@ -1,0 +1,10 @@
+pub mod Names
+pub mod Members
+pub mod Arrays
+pub mod Buffers
+pub mod Views
+pub mod Sparse
+pub mod Accessors
+pub mod Lists
+pub mod Walks
+pub mod Packs
