@@ -1,0 +1,6 @@
+pub mod Signs
+pub mod Spelled
+pub mod Fits
+pub mod Answers
+pub mod Alike
+pub mod Exact

@@ -1,0 +1,4 @@
+pub mod Numbers
+pub mod Readings
+pub mod Views
+pub mod Meaning

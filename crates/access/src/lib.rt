@@ -1,0 +1,87 @@
+// Readings of components and buffer views, for any bytes and any tables: the numbers 60 to 63 and 67.
+use tables::Tables;
+use tables::layout;
+use tables::selection;
+use tables::selection::Selection;
+use tables::selection::ViewSelection;
+ghost use mathlib.Core.Path.{_≡_};
+ghost use Rattle.access.specs.Readings.{componentIn, componentOf};
+ghost use Rattle.access.specs.Views.{viewNumberIn, viewNumberOf, viewOf};
+
+mod numbers;
+mod values;
+
+// The number of the refusal, 0 where the component is answered; the value, 0 where it is refused.
+#[repr(C)]
+pub struct Reading {
+    pub number: u32,
+    pub value: i64,
+}
+
+fn refused(number: u32) -> Reading
+    ensures { λ r. ⌜ r ≡ Rattle.access.specs.Readings.refused number ⌝ }
+{
+    Reading { number, value: 0 }
+}
+
+// The component of the accessor selected: 63, 61, 62. The selection is trusted no more than tables.
+pub fn component_in(file: &[u8], s: Selection, element: u32, component: u32) -> Reading
+    ensures { λ r. ⌜ r ≡ componentIn (now (file .entry)) s element component ⌝ }
+{
+    let unfit = selection::accessor_unfit(file.len(), s);
+    if unfit {
+        return refused(63);
+    }
+    if s.accessor.count <= element {
+        return refused(61);
+    }
+    let components = layout::component_count(s.accessor.element_type);
+    if components <= component {
+        return refused(62);
+    }
+    let value = values::value_in(file, s, element, component);
+    Reading { number: 0, value }
+}
+
+// The component of an accessor of the tables: 60, then as above.
+pub fn component(file: &[u8], t: Tables, accessor: u32, element: u32, component: u32) -> Reading
+    ensures { λ r. ⌜ r ≡ componentOf (now (file .entry)) t accessor element component ⌝ }
+{
+    if (t.accessors <= accessor) | (128 <= accessor) {
+        return refused(60);
+    }
+    let s = selection::select(t, accessor);
+    component_in(file, s, element, component)
+}
+
+fn view_number_in(bytes: usize, s: ViewSelection, view: u32) -> u32
+    ensures { λ r. ⌜ r ≡ viewNumberIn bytes s view ⌝ }
+{
+    if (s.extent.views <= view) | (64 <= view) {
+        return 67;
+    }
+    let unfit = selection::view_unfit(bytes, s);
+    if unfit { 63 } else { 0 }
+}
+
+// The number of a view lookup: 67, 63, or 0 where the view is answered.
+pub fn view_number(file: &[u8], t: Tables, view: u32) -> u32
+    ensures { λ r. ⌜ r ≡ viewNumberOf (now (file .entry)) t view ⌝ }
+{
+    let s = selection::select_view(t, view);
+    view_number_in(file.len(), s, view)
+}
+
+// The view's bytes, a part of the file lent; refused, an empty part.
+pub fn view(file: &[u8], t: Tables, view: u32) -> &[u8]
+    ensures { λ r. ⌜ now r ≡ viewOf (now (file .entry)) t view ⌝ }
+{
+    let s = selection::select_view(t, view);
+    let number = view_number_in(file.len(), s, view);
+    if number != 0 {
+        return &file[0..0];
+    }
+    let start = s.extent.buffer_start as usize + s.view.byte_offset as usize;
+    let end = start + s.view.byte_length as usize;
+    &file[start..end]
+}

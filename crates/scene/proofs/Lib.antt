@@ -1,0 +1,7 @@
+pub mod Laws
+pub mod Copies
+pub mod Fit
+pub mod Orders
+pub mod Unfits
+pub mod Founds
+pub mod Exact
