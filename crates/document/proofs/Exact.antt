@@ -1,5 +1,5 @@
 -- What the records say of the tree: each kept record is its element's, the others are empty, and rule 16 is asked of
--- every element; a good member is an integer of the tree, or absent and marked so.
+-- every element; a member of the right kind is the tree's, or absent and marked so.
 -- Assumes nothing.
 use Prim.Native.Nat.{ℕ, zero, suc, _≤_, _<_}
 use native.Mathlib.Omega.{arith}
@@ -15,9 +15,10 @@ use Rattle.laws.proofs.Lists.{getD-any}
 use Rattle.json.specs.declared.nav.scalars.Integer.{Integer}
 use Rattle.json.specs.declared.nav.scalars.Integer.the-variants.{Is, Not}
 use Rattle.json.specs.Tree.{Json}
+use Rattle.json.specs.Kinds.{treeKind}
 use Rattle.json.specs.Integers.{integerOf}
-use Rattle.document.specs.Members.{integerMember, numberOf}
-use Rattle.document.specs.Arrays.{every, everyOfSome, elementsOf, isArrayOf, elementsIn, fill}
+use Rattle.document.specs.Members.{isText, integerMember, numberOf, booleanMember, typeMember}
+use Rattle.document.specs.Arrays.{every, everyOfSome, elementsOf, isArrayOf, fill}
 
 module _ {A : Type 0} (z : A) where
   -- what a list is filled up with is the default
@@ -88,3 +89,30 @@ pub optional-exact : (o : Option Json) → integerMember false o .good ≡ true 
 unfolding integerMember
 optional-exact none e = inl (refl, refl, refl)
 optional-exact (some i) e = let x = is-integer (integerOf i) e in inr (i, refl, x .0, x .1)
+
+-- rule 16 of a member that is true or false: it is absent and false, or the tree's
+pub boolean-exact : (o : Option Json) → booleanMember o .good ≡ true →
+    ((o ≡ none) × (booleanMember o .value ≡ false))
+    ⊎ (((o ≡ some Json.true) × (booleanMember o .value ≡ true))
+    ⊎ ((o ≡ some Json.false) × (booleanMember o .value ≡ false)))
+unfolding booleanMember treeKind
+boolean-exact none e = inl (refl, refl)
+boolean-exact (some Json.null) e = absurd (true≢false (sym e))
+boolean-exact (some Json.true) e = inr (inl (refl, refl))
+boolean-exact (some Json.false) e = inr (inr (refl, refl))
+boolean-exact (some (Json.number ds)) e = absurd (true≢false (sym e))
+boolean-exact (some (Json.string cs)) e = absurd (true≢false (sym e))
+boolean-exact (some (Json.array js)) e = absurd (true≢false (sym e))
+boolean-exact (some (Json.object ms)) e = absurd (true≢false (sym e))
+
+-- rule 16 of a type: it is there, and a string
+pub type-exact : (o : Option Json) → typeMember o .good ≡ true → (cs : List ℕ) × (o ≡ some (Json.string cs))
+unfolding typeMember isText
+type-exact none e = absurd (true≢false (sym e))
+type-exact (some Json.null) e = absurd (true≢false (sym e))
+type-exact (some Json.true) e = absurd (true≢false (sym e))
+type-exact (some Json.false) e = absurd (true≢false (sym e))
+type-exact (some (Json.number ds)) e = absurd (true≢false (sym e))
+type-exact (some (Json.string cs)) e = (cs, refl)
+type-exact (some (Json.array js)) e = absurd (true≢false (sym e))
+type-exact (some (Json.object ms)) e = absurd (true≢false (sym e))

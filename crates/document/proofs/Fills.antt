@@ -39,8 +39,8 @@ pub data Next {B : Type 0} (n count : ℕ) (kept : List B) (v : B) (more : List 
   full : n ≤ count → more ≡ kept → Next n count kept v more
 
 -- one more element of a list that is read in order
-pub fill-map : {A B : Type 0} (z : B) (f : A → B) (n : ℕ) (xs : List A) (x : A) {count : ℕ} {kept more : List B} {v : B} →
-    count ≡ length xs → kept ≡ fill n z (map f xs) → v ≡ f x → Next n count kept v more →
+pub fill-map : {A B : Type 0} (z : B) (f : A → B) (n : ℕ) (xs : List A) (x : A) {count : ℕ} {kept more : List B}
+    {v : B} → count ≡ length xs → kept ≡ fill n z (map f xs) → v ≡ f x → Next n count kept v more →
     more ≡ fill n z (map f (xs ++ (x ∷ [])))
 fill-map z f n xs x {count} c k e (put h y) =
     let l : length (map f xs) ≡ count = length-map xs f ∙ sym c in

@@ -3,3 +3,4 @@ mod Objects
 mod Fills
 mod Passes
 pub mod Exact
+mod Examples

@@ -2,25 +2,22 @@
 -- Assumes nothing.
 use Prim.Native.Nat.{ℕ, _<_}
 use native.Mathlib.Omega.{arith}
-use mathlib.Core.Path.{_≡_, refl, sym, ap, _∙_}
+use mathlib.Core.Path.{_≡_, refl, ap, _∙_}
 use mathlib.Core.Bool.{Bool, true, false, not}
 use mathlib.Core.List.{List}
-use mathlib.Core.Option.{Option, some, none}
+use mathlib.Core.Option.{Option}
 use lib.Dec.{eqb}
 use borrow.Author.Tests.{ne-eqb}
 use Rattle.json.specs.declared.nav.Kind.{Kind}
 use Rattle.json.specs.declared.nav.Kind.the-variants.{Object, Array, Text, True, False, Null, Number, Other}
 use Rattle.json.specs.Tree.{Json}
 use Rattle.json.specs.Faults.Stop.{stop-object}
-use Rattle.json.specs.Parse.{treeAt}
 use Rattle.json.specs.Places.{Stands, given}
 use Rattle.json.specs.Kinds.{treeKind}
-use Rattle.json.specs.Words.{isString, isStringAt}
 use Rattle.json.specs.Members.{PastTo, FoundTree}
 use Rattle.json.specs.Members.PastTo.{past-at, past-none}
 use Rattle.json.specs.Members.FoundTree.{tree-at, tree-absent}
 use Rattle.json.proofs.Unique.{value-unique}
-use Rattle.json.proofs.nav.Navigation.{string-stands}
 use Rattle.document.specs.Members.{isObject, isText, booleanOf}
 
 -- a place that is not 0
@@ -48,12 +45,7 @@ pub has-place : {s : List ℕ} {o : Option Json} {p : ℕ} → FoundTree s o p �
 has-place (tree-at h l t) = there h
 has-place tree-absent = refl
 
--- what a test for a word said of the tree
-pub named : {w : List ℕ} {j : Json} → Stands w j → (k : List ℕ) {r b : Bool} → r ≡ isStringAt k (treeAt 32 w) → r ≡ b →
-    isString k j ≡ b
-named t k e d = sym (string-stands t k e) ∙ d
-
--- a tree by its kind: a string, or none
+-- a tree by its kind: a string
 pub text-yes : (j : Json) → treeKind j ≡ Text → isText j ≡ true
 unfolding isText treeKind
 text-yes Json.null e = absurd (let z : _≡_ {A = ℕ} 0 1 = cc in omega arith)
@@ -64,6 +56,7 @@ text-yes (Json.string cs) e = refl
 text-yes (Json.array js) e = absurd (let z : _≡_ {A = ℕ} 0 1 = cc in omega arith)
 text-yes (Json.object ms) e = absurd (let z : _≡_ {A = ℕ} 0 1 = cc in omega arith)
 
+-- and no string
 pub text-no : (j : Json) → (treeKind j ≡ Text → ⊥) → isText j ≡ false
 unfolding isText treeKind
 text-no Json.null f = refl

@@ -1,5 +1,4 @@
 -- What the tree says of accessors. Assumes nothing: these are definitions.
-use Prim.Native.Nat.{ℕ}
 use mathlib.Core.Bool.{Bool, false, _&&_}
 use mathlib.Core.List.{List, map}
 use mathlib.Core.Option.{Option}
@@ -12,21 +11,26 @@ use Rattle.document.specs.declared.members.Boolean.{Boolean}
 use Rattle.document.specs.declared.members.ElementType.{ElementType}
 use Rattle.document.specs.declared.records.sparse.SparseRead.{SparseRead}
 use Rattle.document.specs.declared.records.accessors.AccessorsRead.{AccessorsRead}
-use Rattle.document.specs.Names.{'componentType', 'count', 'type', 'bufferView', 'byteOffset', 'normalized', 'sparse'}
+use Rattle.document.specs.Names.{'componentType', 'count', 'type', 'bufferView', 'byteOffset'}
+use Rattle.document.specs.Names.{'normalized', 'sparse'}
 use Rattle.document.specs.Members.{isObject, required, optional, typeMember, booleanMember}
 use Rattle.document.specs.Arrays.{isArrayOf, elementsIn, fill}
 use Rattle.document.specs.Sparse.{sparseMember}
 
+-- the member type
 abbrev pub typeIn : Json → ElementType
 typeIn j = typeMember (fieldOf 'type' j)
 
+-- the member normalized
 abbrev pub normalizedIn : Json → Boolean
 normalizedIn j = booleanMember (fieldOf 'normalized' j)
 
+-- the member sparse
 abbrev pub sparseIn : Json → SparseRead
 sparseIn j = sparseMember (fieldOf 'sparse' j)
 
--- Accessor: componentType*, count*, type* (string), bufferView, byteOffset, normalized (true or false), sparse (rule 16)
+-- rule 16 of an accessor: componentType*, count*, type* (string), bufferView, byteOffset, normalized (true or false),
+-- sparse (object)
 unfoldable pub isAccessor : Json → Bool
 isAccessor j =
     isObject j

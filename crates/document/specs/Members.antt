@@ -52,10 +52,11 @@ unfoldable pub integerMember : Bool → Option Json → Number
 integerMember r none = record { good = not r; has = false; value = 0 }
 integerMember r (some j) = numberOf (integerOf j)
 
--- the members that must be there, and those that may be absent
+-- an integer member that must be there
 abbrev pub required : List ℕ → Json → Number
 required k j = integerMember true (fieldOf k j)
 
+-- one that may be absent
 abbrev pub optional : List ℕ → Json → Number
 optional k j = integerMember false (fieldOf k j)
 

@@ -3,6 +3,7 @@
 use Prim.Native.Nat.{ℕ}
 use mathlib.Core.List.{List, [], _∷_}
 
+-- members
 abbrev pub 'buffer' : List ℕ
 'buffer' = 98 ∷ 117 ∷ 102 ∷ 102 ∷ 101 ∷ 114 ∷ []
 
@@ -45,6 +46,7 @@ abbrev pub 'indices' : List ℕ
 abbrev pub 'values' : List ℕ
 'values' = 118 ∷ 97 ∷ 108 ∷ 117 ∷ 101 ∷ 115 ∷ []
 
+-- types
 abbrev pub 'SCALAR' : List ℕ
 'SCALAR' = 83 ∷ 67 ∷ 65 ∷ 76 ∷ 65 ∷ 82 ∷ []
 

@@ -1,15 +1,14 @@
 -- What the tree says of the sparse part of an accessor. Assumes nothing: these are definitions.
-use mathlib.Core.Bool.{Bool, true, false, _&&_}
+use mathlib.Core.Bool.{true, false, _&&_}
 use mathlib.Core.Option.{Option, some, none}
 use Rattle.json.specs.Tree.{Json}
-use Rattle.tables.specs.declared.Sparse.{Sparse}
+use Rattle.json.specs.Members.{fieldOf}
 use Rattle.tables.specs.Records.{noSparse}
 use Rattle.document.specs.declared.records.sparse.IndicesRead.{IndicesRead}
 use Rattle.document.specs.declared.records.sparse.ValuesRead.{ValuesRead}
 use Rattle.document.specs.declared.records.sparse.SparseRead.{SparseRead}
 use Rattle.document.specs.Names.{'bufferView', 'componentType', 'byteOffset', 'count', 'indices', 'values'}
 use Rattle.document.specs.Members.{isObject, required, optional}
-use Rattle.json.specs.Members.{fieldOf}
 
 -- indices* of sparse: bufferView*, componentType*, byteOffset
 unfoldable pub indicesMember : Option Json → IndicesRead
@@ -17,7 +16,10 @@ indicesMember none = record { good = false; «buffer_view» = 0; «component_typ
 indicesMember (some j) =
     record {
       good =
-          isObject j && required 'bufferView' j .good && required 'componentType' j .good && optional 'byteOffset' j .good;
+          isObject j
+          && required 'bufferView' j .good
+          && required 'componentType' j .good
+          && optional 'byteOffset' j .good;
       «buffer_view» = required 'bufferView' j .value;
       «component_type» = required 'componentType' j .value;
       «byte_offset» = optional 'byteOffset' j .value;
@@ -33,9 +35,11 @@ valuesMember (some j) =
       «byte_offset» = optional 'byteOffset' j .value;
     }
 
+-- the indices of a sparse part
 abbrev pub indicesIn : Json → IndicesRead
 indicesIn j = indicesMember (fieldOf 'indices' j)
 
+-- its values
 abbrev pub valuesIn : Json → ValuesRead
 valuesIn j = valuesMember (fieldOf 'values' j)
 

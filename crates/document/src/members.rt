@@ -1,9 +1,11 @@
 // A member of an object by the place of its value, where 0 is none, and the step from one object to the next.
 ghost use mathlib.Core.Path.{_≡_};
+ghost use mathlib.Core.Bool.{cond};
 ghost use mathlib.Core.Option.{Option};
 ghost use lib.ListN.{drop};
 ghost use Rattle.json.specs.Tree.{Json};
 ghost use Rattle.json.specs.Places.{Stands};
+ghost use Rattle.json.specs.Words.{isString};
 ghost use Rattle.json.specs.Steps.{nextOf};
 ghost use Rattle.json.specs.Members.{FoundTree, PastTo};
 ghost use Rattle.document.specs.Members.{integerMember, booleanMember, typeOf, typeMember};
@@ -83,32 +85,29 @@ pub(crate) fn true_or_false(s: &[u8], at: usize) -> Boolean
     }
 }
 
+// `yes` where the value at `at` is the string `word`, else `no`.
+pub(crate) fn if_named(s: &[u8], at: usize, word: &[u8], yes: u32, no: u32) -> u32
+    ensures { λ r. ⌜ ((j : Json) → Stands (drop at (now (s .entry))) j →
+        r ≡ cond (isString (now (word .entry)) j) yes no) ⌝ }
+{
+    if scalars::string_is(s, at, word) {
+        yes
+    } else {
+        no
+    }
+}
+
 // The number of the type whose name is the string at `at`.
 pub(crate) fn type_number(s: &[u8], at: usize) -> u32
     ensures { λ r. ⌜ ((j : Json) → Stands (drop at (now (s .entry))) j → r ≡ typeOf j) ⌝ }
 {
-    if scalars::string_is(s, at, b"SCALAR") {
-        return 1;
-    }
-    if scalars::string_is(s, at, b"VEC2") {
-        return 2;
-    }
-    if scalars::string_is(s, at, b"VEC3") {
-        return 3;
-    }
-    if scalars::string_is(s, at, b"VEC4") {
-        return 4;
-    }
-    if scalars::string_is(s, at, b"MAT2") {
-        return 5;
-    }
-    if scalars::string_is(s, at, b"MAT3") {
-        return 6;
-    }
-    if scalars::string_is(s, at, b"MAT4") {
-        return 7;
-    }
-    0
+    let mat4 = if_named(s, at, b"MAT4", 7, 0);
+    let mat3 = if_named(s, at, b"MAT3", 6, mat4);
+    let mat2 = if_named(s, at, b"MAT2", 5, mat3);
+    let vec4 = if_named(s, at, b"VEC4", 4, mat2);
+    let vec3 = if_named(s, at, b"VEC3", 3, vec4);
+    let vec2 = if_named(s, at, b"VEC2", 2, vec3);
+    if_named(s, at, b"SCALAR", 1, vec2)
 }
 
 // The type at a place, which is required.

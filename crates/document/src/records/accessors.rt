@@ -17,8 +17,8 @@ use json::nav::members::gather;
 use tables::Accessor;
 use tables::Sparse;
 
-// One element: rule 16 holds of it, its record, whether byteOffset is there (rule 25), and the place past it, 0 where it is
-// no object.
+// One element: rule 16 holds of it, its record, whether byteOffset is there (rule 25), and the place past it,
+// 0 where it is no object.
 pub(crate) struct AccessorRead {
     pub good: bool,
     pub accessor: Accessor,
@@ -26,7 +26,8 @@ pub(crate) struct AccessorRead {
     pub past: usize,
 }
 
-// All elements: rule 16 holds of them, how many there are, and of the first 128 the record and whether byteOffset is there.
+// All elements: rule 16 holds of them, how many there are, and of the first 128 the records,
+// and whether byteOffset is there.
 pub(crate) struct AccessorsRead {
     pub good: bool,
     pub count: usize,

@@ -16,7 +16,10 @@ next-past-requires : tie.Need-next-past-requires
 next-past-requires c κs = search needs
 
 returns-2 : tie.Need-returns-2
-returns-2 c = c .next-past .ensures ∙ past-next (c .before .before .before .args .s .now) (c .before .before .before .args .at) (c .before .before .before .pre) (c .before .if1 .left)
+returns-2 c =
+    let start = c .before .before .before in
+    let a = start .args in
+    c .next-past .ensures ∙ past-next (a .s .now) (a .at) (start .pre) (c .before .if1 .left)
 
 pub next-object-spec : {M : Type 1} → statement M
 next-object-spec = tie.close (tie.spec next-requires returns next-past-requires returns-2)

@@ -43,7 +43,9 @@ returns-4 c = λ o t.
     rw (
       g .1,
       ← kind-stands (g .2) (c .before .kind-at .ensures),
-      not-boolean (c .before .kind-at .result) (λ e. miss other 3 tt (rw e at (c .match .keys3))) (λ e. miss other 4 tt (rw e at (c .match .keys3))),
+      not-boolean (c .before .kind-at .result)
+          (λ e. miss other 3 tt (rw e at (c .match .keys3)))
+          (λ e. miss other 4 tt (rw e at (c .match .keys3))),
     )
 
 pub true-or-false-spec : {M : Type 1} → statement M

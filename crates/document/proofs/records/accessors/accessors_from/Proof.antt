@@ -29,7 +29,14 @@ abbrev μ-loop : tie.MeasureT-loop
 loop-holds : tie.Need-loop-holds Inv-loop μ-loop
 loop-holds c =
     let a = c .before .args in
-    (omega arith, omega arith, λ js w. (read-none isAccessor accessorOf 128 noAccessor (a .s .now) js (a .at) w, read-none isAccessor isPlaced 128 false (a .s .now) js (a .at) w))
+    let s = a .s .now in (
+      omega arith,
+      omega arith,
+      λ js w. (
+        read-none isAccessor accessorOf 128 noAccessor s js (a .at) w,
+        read-none isAccessor isPlaced 128 false s js (a .at) w,
+      ),
+    )
 
 accessor-at-requires : tie.Need-accessor-at-requires Inv-loop μ-loop
 accessor-at-requires c κs = search needs
@@ -55,7 +62,9 @@ enum-known-q c = search needs
 loop-less : tie.Need-loop-less Inv-loop μ-loop
 loop-less c =
     let n = c .before .before .before in
-    let m = next-later (n .before .before .before .before .before .before .args .s .now) (n .before .before .before .before .loop .i) (n .next-object .ensures) (c .before .q .given .1) in
+    let l = n .before .before .before .before in
+    let s = l .before .before .args .s .now in
+    let m = next-later s (l .loop .i) (n .next-object .ensures) (c .before .q .given .1) in
     omega arith
 
 loop-again : tie.Need-loop-again Inv-loop μ-loop
@@ -71,10 +80,12 @@ loop-again c =
       omega arith,
       λ js w.
           let x = l .inv .2 js w in (
-            read-more isAccessor accessorOf 128 noAccessor s js (x .0) e (λ j t. let r = v .accessor-at .ensures .says j t in (r .0, r .1))
+            read-more isAccessor accessorOf 128 noAccessor s js (x .0) e
+                (λ j t. let r = v .accessor-at .ensures .says j t in (r .0, r .1))
                 (⊎-elim (λ w. put (w .0 .taken) (w .2)) (λ w. full (w .0 .left) (w .1)) (n .before .if1 .came))
                 d,
-            read-more isAccessor isPlaced 128 false s js (x .1) e (λ j t. let r = v .accessor-at .ensures .says j t in (r .0, r .2))
+            read-more isAccessor isPlaced 128 false s js (x .1) e
+                (λ j t. let r = v .accessor-at .ensures .says j t in (r .0, r .2))
                 (⊎-elim (λ w. put (w .0 .taken) (w .3)) (λ w. full (w .0 .left) (w .2)) (n .before .if1 .came))
                 d,
           ),
@@ -93,10 +104,12 @@ returns c = λ js w.
     let e = n .next-object .ensures in
     let x = l .inv .2 js w in
     let d = c .enum-told .given .1 in
-    let a = read-all isAccessor accessorOf 128 noAccessor s js (x .0) e (λ j t. let r = v .accessor-at .ensures .says j t in (r .0, r .1))
+    let a = read-all isAccessor accessorOf 128 noAccessor s js (x .0) e
+    (λ j t. let r = v .accessor-at .ensures .says j t in (r .0, r .1))
     (⊎-elim (λ w. put (w .0 .taken) (w .2)) (λ w. full (w .0 .left) (w .1)) (n .before .if1 .came))
     d in
-    let p = read-all isAccessor isPlaced 128 false s js (x .1) e (λ j t. let r = v .accessor-at .ensures .says j t in (r .0, r .2))
+    let p = read-all isAccessor isPlaced 128 false s js (x .1) e
+    (λ j t. let r = v .accessor-at .ensures .says j t in (r .0, r .2))
     (⊎-elim (λ w. put (w .0 .taken) (w .3)) (λ w. full (w .0 .left) (w .2)) (n .before .if1 .came))
     d in
     rw (← (a .0), ← (a .1), ← (a .2), ← (p .2))
@@ -107,9 +120,10 @@ enum-told-2 c = search needs
 returns-2 : tie.Need-returns-2 Inv-loop μ-loop
 returns-2 c = λ js w.
     let n = c .before .before in
-    let l = n .before .before .before .before .loop in
-    let x = l .inv .2 js w in
-    absurd (read-never isAccessor accessorOf 128 noAccessor (n .before .before .before .before .before .before .args .s .now) js (x .0) (n .next-object .ensures) (c .enum-told2 .given .1))
+    let l = n .before .before .before .before in
+    let s = l .before .before .args .s .now in
+    let x = l .loop .inv .2 js w .0 in
+    absurd (read-never isAccessor accessorOf 128 noAccessor s js x (n .next-object .ensures) (c .enum-told2 .given .1))
 
 pub accessors-from-spec : {M : Type 1} → statement M
 accessors-from-spec =
