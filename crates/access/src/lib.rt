@@ -5,6 +5,7 @@ use tables::selection;
 use tables::selection::Selection;
 use tables::selection::ViewSelection;
 ghost use mathlib.Core.Path.{_≡_};
+ghost use Rattle.tables.specs.Fitness.{selectionOf};
 ghost use Rattle.access.specs.Readings.{componentIn, componentOf};
 ghost use Rattle.access.specs.Views.{viewNumberIn, viewNumberOf, viewOf};
 
@@ -22,6 +23,13 @@ fn refused(number: u32) -> Reading
     ensures { λ r. ⌜ r ≡ Rattle.access.specs.Readings.refused number ⌝ }
 {
     Reading { number, value: 0 }
+}
+
+// The records concerned in readings of one accessor, for many readings of it.
+pub fn select(t: Tables, accessor: u32) -> Selection
+    ensures { λ r. ⌜ r ≡ selectionOf t accessor ⌝ }
+{
+    selection::select(t, accessor)
 }
 
 // The component of the accessor selected: 63, 61, 62. The selection is trusted no more than tables.

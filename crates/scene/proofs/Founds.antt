@@ -15,7 +15,7 @@ use Rattle.graph.proofs.Exact.{walk-exact as order-walk}
 use Rattle.graph.proofs.Capacity.{sound-holds}
 use Rattle.graph.proofs.Placing.{length-packed}
 use Rattle.scene.specs.Lists.{startsOf, lengthsOf, kidsOf, rootsOf}
-use Rattle.scene.specs.Walk.{walkOf, walkUnfit, listed, orderOf}
+use Rattle.scene.specs.Walk.{walkOf, walkUnfit, listed, levels, orderOf}
 use Rattle.scene.specs.Meaning.{Sized, Unfit, Found}
 use Rattle.scene.proofs.Fit.{Fit, fit, joined, root-low}
 use Rattle.scene.proofs.Orders.{in-order}
@@ -36,7 +36,7 @@ module _ (t : Tables) (sized : Sized t) (scene : ℕ) (below : scene < t .scenes
   nodes : length (kidsOf t) ≡ t .nodes
   nodes = length-packed (startsOf (t .«node_lists»)) (lengthsOf (t .«node_lists»)) (t .children) (t .nodes)
 
-  deep : length (kidsOf t) ≤ 128
+  deep : length (kidsOf t) ≤ levels
   deep = omega (arith, nodes, fits .nodes .fits)
 
   there : scene < length (rootsOf t)
@@ -47,13 +47,13 @@ module _ (t : Tables) (sized : Sized t) (scene : ℕ) (below : scene < t .scenes
       )
 
   walks : Walk (kidsOf t) (getD (rootsOf t) scene []) (orderOf t scene)
-  walks = order-walk (kidsOf t) (rootsOf t) (fits .sound) 128 scene deep there
+  walks = order-walk (kidsOf t) (rootsOf t) (fits .sound) levels scene deep there
 
   pub order-found : Found t scene (orderOf t scene)
   order-found =
       record {
         ordered = in-order (kidsOf t) (joined _ _ _ _ _ _ _ _ fits)
-            (sound-holds (kidsOf t) (rootsOf t) (fits .sound) 2 (omega arith)) 128 (getD (rootsOf t) scene []) deep
+            (sound-holds (kidsOf t) (rootsOf t) (fits .sound) 2 (omega arith)) levels (getD (rootsOf t) scene []) deep
             (λ x i. root-low _ _ _ _ _ _ _ _ fits scene x below i);
         exact = walks;
         few = omega (arith, walks .few, nodes);

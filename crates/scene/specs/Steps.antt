@@ -6,7 +6,7 @@ use mathlib.Core.List.{List, [], _++_}
 use lib.ListN.{getD, length, take, drop}
 use Rattle.graph.specs.Packing.{packedLists, packedRefused}
 use Rattle.graph.specs.Order.{sceneOrder}
-use Rattle.scene.specs.Walk.{Outcome, refused, listed}
+use Rattle.scene.specs.Walk.{Outcome, refused, listed, levels}
 
 -- the children lists of as many nodes as there are starts
 abbrev pub kidsIn : List ℕ → List ℕ → List ℕ → List (List ℕ)
@@ -33,6 +33,6 @@ walkLists nodeStarts nodeLengths children nodes sceneStarts sceneLengths roots s
     cond (packedRefused nodeStarts nodeLengths children nodes sceneStarts sceneLengths roots scenes)
     (refused 66 list)
     (listed
-    (sceneOrder (packedLists nodeStarts nodeLengths children nodes) 128
+    (sceneOrder (packedLists nodeStarts nodeLengths children nodes) levels
     (getD (packedLists sceneStarts sceneLengths roots scenes) scene []))
     list)

@@ -39,9 +39,13 @@ walkUnfit t =
     || packedRefused (startsOf (t .«node_lists»)) (lengthsOf (t .«node_lists»)) (t .children) (t .nodes)
     (startsOf (t .«scene_lists»)) (lengthsOf (t .«scene_lists»)) (t .roots) (t .scenes)
 
--- the nodes found: roots in listed order, each with all under it; 128 levels, as many as there may be nodes
+-- the levels of a walk: as many as there may be nodes, so that nothing is cut off
+abbrev pub levels : ℕ
+levels = 128
+
+-- the nodes found: roots in listed order, each with all under it
 abbrev pub orderOf : Tables → ℕ → List ℕ
-orderOf t scene = sceneOrder (kidsOf t) 128 (getD (rootsOf t) scene [])
+orderOf t scene = sceneOrder (kidsOf t) levels (getD (rootsOf t) scene [])
 
 -- the whole answer: 64 where the scene index is not below the count or not below 8, then 66, then 65
 unfoldable pub walkOf : Tables → ℕ → List ℕ → Outcome

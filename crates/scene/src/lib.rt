@@ -9,6 +9,7 @@ ghost use Rattle.scene.specs.Walk.{walkOf};
 pub mod lists;
 pub mod places;
 pub mod roots;
+pub mod size;
 pub mod subtree;
 
 // The number is 0 where the scene is walked, the count then how many entries of the list were written.

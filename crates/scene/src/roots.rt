@@ -1,7 +1,7 @@
 // All roots of a scene, each with all under it.
 use crate::Walked;
+use crate::size::subtree_size;
 use crate::subtree::subtree;
-use crate::subtree::subtree_size;
 ghost use mathlib.Core.Path.{_≡_};
 ghost use Prim.Native.Nat.{min, _≤_, _<_};
 ghost use lib.ListN.{length};

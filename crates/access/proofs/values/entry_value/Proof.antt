@@ -42,17 +42,23 @@ lies c =
     entry-fits (length (a .file .now)) (a .s) (p .0) (p .1 .0) (a .k) (a .component) (p .1 .1 .0) (p .1 .1 .1)
 
 place-requires : tie.Need-place-requires
-place-requires c κs = rw (at c) (omega (arith, lies c, c .before .before .before .before .before .good .0))
+place-requires c κs = omega (arith, at c, lies c, c .before .before .before .before .before .good .0)
+
+-- the place that is read
+spot : (c : tie.After-place)
+    → let a = c .before .before .before .before .before .before .args in
+    c .place .result ≡ valueAt (a .s) (a .k) (a .component)
+spot c = c .place .ensures ∙ at (c .before)
 
 number-at-requires : tie.Need-number-at-requires
-number-at-requires c κs = rw (c .place .ensures, at (c .before)) (lies (c .before))
+number-at-requires c κs = rw (spot c) (lies (c .before))
 
 returns : tie.Need-returns
 unfolding entryValue
 returns c =
     toZ-ofZ w64 (c .number-at .result) (record { sfits = c .number-at .ok })
     ∙ c .number-at .ensures
-    ∙ rw (c .before .place .ensures, at (c .before .before))
+    ∙ rw (spot (c .before))
 
 pub entry-value-spec : {M : Type 1} → statement M
 entry-value-spec =

@@ -44,17 +44,24 @@ lies c =
     (a .element) (a .component) (p .1 .0) (p .1 .1)
 
 place-requires : tie.Need-place-requires
-place-requires c κs = rw (at c) (omega (arith, lies c, c .before .before .before .before .before .before .before .good .0))
+place-requires c κs =
+    omega (arith, at c, lies c, c .before .before .before .before .before .before .before .good .0)
+
+-- the place that is read
+spot : (c : tie.After-place)
+    → let a = c .before .before .before .before .before .before .before .before .args in
+    c .place .result ≡ componentAt (a .s) (a .element) (a .component)
+spot c = c .place .ensures ∙ at (c .before)
 
 number-at-requires : tie.Need-number-at-requires
-number-at-requires c κs = rw (c .place .ensures, at (c .before)) (lies (c .before))
+number-at-requires c κs = rw (spot c) (lies (c .before))
 
 returns : tie.Need-returns
 returns c =
     let a = c .before .before .before .before .before .before .before .before .before .args in
     toZ-ofZ w64 (c .number-at .result) (record { sfits = c .number-at .ok })
     ∙ c .number-at .ensures
-    ∙ rw (c .before .place .ensures, at (c .before .before))
+    ∙ rw (spot (c .before))
     (sym (of-some (a .file .now) (a .s) (a .element) (a .component) (c .before .before .before .before .before .if1 .taken)))
 
 returns-2 : tie.Need-returns-2

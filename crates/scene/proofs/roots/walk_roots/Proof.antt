@@ -1,7 +1,7 @@
 -- `scene::roots::walk_roots` meets its contract. Assumes nothing.
 use borrow.Author.Needs.{needs}
 use Prim.Native.Nat.{ℕ, _≤_}
-use mathlib.Core.Path.{_≡_, _∙_}
+use mathlib.Core.Path.{_≡_, ap, _∙_}
 use mathlib.Core.Bool.{true, false}
 use mathlib.Core.List.{List}
 use native.Mathlib.Omega.{arith}
@@ -50,7 +50,7 @@ returns-2 c =
     omega (arith, size .ensures, c .before .before .before .before .if1 .left) in
     let t : ltb (length (a .list .now)) (length order) ≡ false = le-ltb (length (a .list .now)) (length order) small in
     let n : size .result ≡ length order = omega (arith, size .ensures) in
-    (rw (t, n), rw t (c .before .before .write-roots .ensures ∙ written-front (a .list .now) order))
+    (rw t (ap (λ (k : ℕ). record { number = 0; count = k }) n), rw t (c .before .before .write-roots .ensures ∙ written-front (a .list .now) order))
 
 pub walk-roots-spec : {M : Type 1} → statement M
 walk-roots-spec =

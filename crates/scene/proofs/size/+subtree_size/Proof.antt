@@ -1,4 +1,4 @@
--- `scene::subtree::subtree_size`, which calls itself, meets its contract. The measure is the levels left.
+-- `scene::size::subtree_size`, which calls itself, meets its contract. The measure is the levels left.
 -- Assumes nothing.
 use borrow.Author.Needs.{needs}
 use Prim.Native.Nat.{ℕ, _+_, _-_, min, _<_, _≤_}
@@ -10,11 +10,11 @@ use Rattle.scene.specs.Steps.{kidsIn}
 use Rattle.scene.proofs.Laws.{soFar, next-length, step}
 use borrow.Fn.Kinds.{In}
 use borrow.Fn.PlainCycle.{Measures, is, falls, and}
-use Rattle.scene.proofs.subtree.subtree_size.Reads as reads
-use Rattle.scene.proofs.subtree.subtree_size.Kinds as kinds
-use Rattle.scene.proofs.subtree.+subtree_size.Lts-subtree_size as lts
-use Rattle.scene.proofs.subtree.+subtree_size.{statement}
-use Rattle.scene.proofs.subtree.+subtree_size.Tie.{close}
+use Rattle.scene.proofs.size.subtree_size.Reads as reads
+use Rattle.scene.proofs.size.subtree_size.Kinds as kinds
+use Rattle.scene.proofs.size.+subtree_size.Lts-subtree_size as lts
+use Rattle.scene.proofs.size.+subtree_size.{statement}
+use Rattle.scene.proofs.size.+subtree_size.Tie.{close}
 
 abbrev levels : Measures 3 kinds.ps ℕ
 levels κs a = a .1 .1 .1 .1 .0
