@@ -1,4 +1,6 @@
 // Times the library from C: best of several runs, in nanoseconds a byte, beside a plain loop over the same bytes.
+#include <pthread.h>
+#include <stdbool.h>
 #include <stdint.h>
 #include <stdio.h>
 #include <stdlib.h>
@@ -7,6 +9,26 @@
 
 uint32_t time_container(const uint8_t *file, size_t length);
 uint32_t time_text(const uint8_t *chunk, size_t length);
+
+// The records, as the library has them.
+typedef struct { uint32_t buffer, byte_offset, byte_length, byte_stride; bool has_byte_stride; uint32_t target; bool has_target; } BufferView;
+typedef struct { uint32_t count, indices_view, indices_offset, indices_type, values_view, values_offset; } Sparse;
+typedef struct {
+    uint32_t buffer_view; bool has_buffer_view; uint32_t byte_offset, component_type, count, element_type; bool normalized, has_sparse; Sparse sparse;
+} Accessor;
+typedef struct { uint16_t start, length; } List;
+typedef struct { uint32_t buffers, views, accessors, nodes, scenes, buffer_start, buffer_length; } Extent;
+typedef struct { Extent extent; Accessor accessor; BufferView own, indices, values; } Selection;
+typedef struct {
+    uint32_t buffers, views, accessors, nodes, scenes, buffer_start, buffer_length, scene; bool has_scene;
+    BufferView view_records[64]; Accessor accessor_records[128]; List node_lists[128]; uint16_t children[128]; List scene_lists[8]; uint16_t roots[1024];
+} Tables;
+typedef struct { uint32_t number; int64_t value; } Reading;
+typedef struct { uint32_t number; size_t count; } Walked;
+
+Reading time_component_in(const uint8_t *file, size_t length, Selection s, uint32_t element, uint32_t component);
+Reading time_component(const uint8_t *file, size_t length, Tables t, uint32_t accessor, uint32_t element, uint32_t component);
+Walked time_walk(Tables t, uint32_t scene, uint16_t *list, size_t length);
 
 static double now(void) {
     struct timespec t;
@@ -53,6 +75,71 @@ static void word(uint8_t *s, uint32_t x) {
     for (int k = 0; k < 4; k++) s[k] = x >> (8 * k);
 }
 
+static uint8_t model[60100];
+static Selection selection;
+static Tables tables;
+static int64_t sum;
+
+// A file of 5,000 VEC3 of 5126, and its tables; nodes in one chain.
+static void make_model(void) {
+    for (size_t i = 0; i < sizeof model; i++) model[i] = i * 7;
+    tables.buffers = tables.views = tables.accessors = tables.scenes = 1;
+    tables.nodes = 128, tables.buffer_start = 100, tables.buffer_length = 60000;
+    tables.view_records[0].byte_length = 60000;
+    Accessor *a = &tables.accessor_records[0];
+    a->has_buffer_view = true, a->component_type = 5126, a->count = 5000, a->element_type = 3;
+    for (int i = 0; i < 127; i++) tables.node_lists[i] = (List){i, 1}, tables.children[i] = i + 1;
+    tables.scene_lists[0] = (List){0, 1};
+    selection.extent = (Extent){1, 1, 1, 128, 1, 100, 60000};
+    selection.accessor = *a, selection.own = tables.view_records[0];
+}
+
+__attribute__((noinline)) static uint32_t plain_component(const uint8_t *p, uint32_t e, uint32_t c) {
+    uint32_t v;
+    memcpy(&v, p + 12 * e + 4 * c, 4);
+    return v;
+}
+
+// The best time of one call, over `count` of the 15,000 components; 0 the plain read, 1 by selection, 2 by tables.
+static double best_component(int how, uint32_t count, int runs) {
+    double least = 1e30;
+    for (int k = 0; k < runs; k++) {
+        double from = now();
+        for (uint32_t i = 0; i < count; i++) {
+            uint32_t e = i / 3, c = i % 3;
+            if (how == 0) sum += plain_component(model + 100, e, c);
+            else if (how == 1) sum += time_component_in(model, sizeof model, selection, e, c).value;
+            else sum += time_component(model, sizeof model, tables, 0, e, c).value;
+        }
+        double took = (now() - from) / count;
+        if (took < least) least = took;
+    }
+    return least;
+}
+
+static void *walk_on(void *room) {
+    uint16_t list[128];
+    if (room) *(Walked *)room = time_walk(tables, 0, list, 128);
+    return NULL;
+}
+
+// The bytes of a painted stack that a thread touched.
+static size_t stack_used(void *room) {
+    size_t size = 1 << 20;
+    uint8_t *stack = aligned_alloc(4096, size);
+    memset(stack, 0xA5, size);
+    pthread_attr_t attr;
+    pthread_t thread;
+    pthread_attr_init(&attr);
+    pthread_attr_setstack(&attr, stack, size);
+    pthread_create(&thread, &attr, walk_on, room);
+    pthread_join(thread, NULL);
+    size_t low = 0;
+    while (low < size && stack[low] == 0xA5) low++;
+    free(stack);
+    return size - low;
+}
+
 int main(void) {
     static char s[1 << 17];
     uint32_t r, q;
@@ -71,5 +158,19 @@ int main(void) {
     double took = best(time_container, file, size, 20, &r);
     printf("rules 1 to 8          %.2f ms for 16 MiB of empty chunks, %.2f ns a chunk (number %u)\n", took / 1e6, took / ((size - 24) / 8), r);
     free(file);
-    return 0;
+    make_model();
+    printf("component, plain read %.2f ns\n", best_component(0, 15000, 500));
+    printf("component_in, dense   %.2f ns\n", best_component(1, 15000, 300));
+    printf("component, by tables  %.0f ns\n", best_component(2, 1500, 100));
+    Walked w;
+    size_t idle = stack_used(NULL), walk = stack_used(&w);
+    uint16_t list[128];
+    double least = 1e30;
+    for (int k = 0; k < 200; k++) {
+        double from = now();
+        w = time_walk(tables, 0, list, 128);
+        if (now() - from < least) least = now() - from;
+    }
+    printf("walk, 128 in a chain  %.1f us (number %u, count %zu), %zu bytes of stack\n", least / 1e3, w.number, w.count, walk - idle);
+    return sum == 42;
 }

@@ -1,7 +1,13 @@
 // Functions that tools/timing calls from C, to time the library from outside.
+use access::Reading;
+use scene::Walked;
+use tables::Tables;
+use tables::selection::Selection;
 ghost use mathlib.Core.Path.{_≡_};
 ghost use Rattle.text.specs.Rules.{textOf};
 ghost use Rattle.container.specs.Rules.{containerOf};
+ghost use Rattle.access.specs.Readings.{componentIn, componentOf};
+ghost use Rattle.scene.specs.Walk.{walkOf};
 
 // Rules 1 to 8: the number.
 #[no_mangle]
@@ -19,4 +25,40 @@ pub extern "C" fn time_text(chunk: &[u8]) -> u32
 {
     let fault = text::check(chunk);
     fault.number
+}
+
+// One component of an accessor that was selected before.
+#[no_mangle]
+pub extern "C" fn time_component_in(
+    file: &[u8],
+    s: Selection,
+    element: u32,
+    component: u32,
+) -> Reading
+    ensures { λ r. ⌜ r ≡ componentIn (now (file .entry)) s element component ⌝ }
+{
+    access::component_in(file, s, element, component)
+}
+
+// One component, from whole tables.
+#[no_mangle]
+pub extern "C" fn time_component(
+    file: &[u8],
+    t: Tables,
+    accessor: u32,
+    element: u32,
+    component: u32,
+) -> Reading
+    ensures { λ r. ⌜ r ≡ componentOf (now (file .entry)) t accessor element component ⌝ }
+{
+    access::component(file, t, accessor, element, component)
+}
+
+// The walk of a scene.
+#[no_mangle]
+pub extern "C" fn time_walk(t: Tables, scene: u32, list: &mut [u16]) -> Walked
+    ensures { λ r. ⌜ (r ≡ walkOf t scene (now (list .entry)) .walked)
+        × (now (list .exit) ≡ walkOf t scene (now (list .entry)) .list) ⌝ }
+{
+    scene::walk(t, scene, list)
 }
