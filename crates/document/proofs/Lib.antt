@@ -2,5 +2,10 @@
 mod Objects
 mod Fills
 mod Passes
+mod Fitting
+mod Parts
+mod Chunks
 pub mod Exact
+pub mod Meaning
+pub mod Lists
 mod Examples

@@ -8,3 +8,7 @@ pub mod Accessors
 pub mod Lists
 pub mod Walks
 pub mod Packs
+pub mod Table
+pub mod Rules
+pub mod Said
+pub mod Meaning

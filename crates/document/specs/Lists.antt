@@ -9,6 +9,7 @@ use Rattle.json.specs.declared.nav.scalars.Integer.the-variants.{Is, Not}
 use Rattle.json.specs.Tree.{Json, Values}
 use Rattle.json.specs.Integers.{integerOf}
 use Rattle.json.specs.Members.{fieldOf}
+use Rattle.document.specs.Names.{'children', 'nodes'}
 use Rattle.document.specs.Members.{isObject}
 use Rattle.document.specs.Arrays.{every}
 use Rattle.document.specs.declared.nodes.steps.Entry.{Entry}
@@ -79,14 +80,6 @@ listsGood k o = filled o && every (itemGood k) (elements o)
 -- the list of each element, in order
 unfoldable pub listsOf : List ℕ → Option Json → List (List ℕ)
 listsOf k o = map (λ j. integersOf (fieldOf k j)) (elements o)
-
--- the names: `children`
-abbrev pub 'children' : List ℕ
-'children' = 99 ∷ 104 ∷ 105 ∷ 108 ∷ 100 ∷ 114 ∷ 101 ∷ 110 ∷ []
-
--- `nodes`
-abbrev pub 'nodes' : List ℕ
-'nodes' = 110 ∷ 111 ∷ 100 ∷ 101 ∷ 115 ∷ []
 
 -- a node's children
 abbrev pub childrenOf : Json → List ℕ

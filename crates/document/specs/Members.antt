@@ -38,6 +38,25 @@ isText (Json.string cs) = true
 isText (Json.array js) = false
 isText (Json.object ms) = false
 
+-- whether a tree is true or false
+unfoldable pub isBoolean : Json → Bool
+isBoolean Json.null = false
+isBoolean Json.true = true
+isBoolean Json.false = true
+isBoolean (Json.number ds) = false
+isBoolean (Json.string cs) = false
+isBoolean (Json.array js) = false
+isBoolean (Json.object ms) = false
+
+-- whether there is an integer
+abbrev pub isOne : Integer → Bool
+isOne (Is n) = true
+isOne Not = false
+
+-- whether a tree is an integer: digits only, at most 4,294,967,295
+unfoldable pub isInteger : Json → Bool
+isInteger j = isOne (integerOf j)
+
 -- whether a member is there
 abbrev pub has : List ℕ → Json → Bool
 has k j = given false (λ i. true) (fieldOf k j)

@@ -6,16 +6,21 @@ use mathlib.Core.Bool.{cond}
 use mathlib.Core.List.{List, [], _∷_, _++_, map}
 use mathlib.Core.Option.{Option}
 use lib.Dec.{eqb}
-use lib.ListN.{length, take, drop, set}
+use lib.ListN.{length, take, drop, set, replicate}
 use lib.Seq.{sets}
 use Rattle.json.specs.Tree.{Json}
 use Rattle.json.specs.Places.{Stands}
 use Rattle.json.specs.Members.{fieldOf, FoundTree, PastTo}
 use Rattle.graph.specs.Graph.{joined}
 use Rattle.graph.specs.Packing.{packedLists, startsFrom, lengthsOf}
+use Rattle.tables.specs.declared.List.{List as Place}
+use Rattle.tables.specs.Records.{noList}
 use Rattle.document.specs.declared.nodes.packing.Taken.{Taken}
 use Rattle.document.specs.declared.nodes.packing.Element.{Element}
 use Rattle.document.specs.declared.nodes.packing.Counted.{Counted}
+use Rattle.document.specs.declared.nodes.lists.NodesRead.{NodesRead}
+use Rattle.document.specs.declared.nodes.lists.ScenesRead.{ScenesRead}
+use Rattle.document.specs.Lists.{nodesGood, nodesOf, scenesGood, rootsOf}
 use Rattle.document.specs.Lists.{integersGood, integersOf, itemGood, listsGood, listsOf}
 
 -- what a list of u16 keeps of a number: its low 16 bits
@@ -67,3 +72,45 @@ pub record ElementTo (s : List ℕ) (at : ℕ) (k : List ℕ) (i used : ℕ) (st
   pub taken : (j : Json) → Stands (drop at s) j
       → r .used ≡ min (length packed) (used + length (integersOf (fieldOf k j)))
   pub kept : (j : Json) → Stands (drop at s) j → packed′ ≡ sets packed used (map low (integersOf (fieldOf k j)))
+
+-- a start and a length as one record
+abbrev pub paired : List ℕ → List ℕ → List Place
+paired [] lengths = []
+paired (a ∷ starts) [] = []
+paired (a ∷ starts) (n ∷ lengths) = record { start = a; length = n } ∷ paired starts lengths
+
+-- where each list starts
+abbrev pub startsIn : List Place → List ℕ
+startsIn records = map (λ (r : Place). r .start) records
+
+-- how long each list is
+abbrev pub lengthsIn : List Place → List ℕ
+lengthsIn records = map (λ (r : Place). r .length) records
+
+-- so many zeros
+abbrev pub zeros : ℕ → List ℕ
+zeros n = replicate n 0
+
+-- the nodes read, where the tree has o for them: their lists packed over zeros
+pub record NodesTo (o : Option Json) (r : NodesRead) : Type 0 where
+  pub good : r .good ≡ nodesGood o
+  pub count : r .count ≡ length (nodesOf o)
+  pub packed : Packed (zeros 128) (zeros 128) (zeros 128) (nodesOf o) (startsIn (r .lists)) (lengthsIn (r .lists)) (r .children)
+
+-- the scenes read
+pub record ScenesTo (o : Option Json) (r : ScenesRead) : Type 0 where
+  pub good : r .good ≡ scenesGood o
+  pub count : r .count ≡ length (rootsOf o)
+  pub packed : Packed (zeros 8) (zeros 8) (zeros 1024) (rootsOf o) (startsIn (r .lists)) (lengthsIn (r .lists)) (r .roots)
+
+-- the nodes without their lists where a rule is broken
+unfoldable pub soundNodes : ℕ → NodesRead → NodesRead
+soundNodes fault r =
+    cond (eqb fault 0) r
+    (record { good = r .good; count = r .count; lists = replicate 128 noList; children = zeros 128 })
+
+-- the scenes likewise
+unfoldable pub soundScenes : ℕ → ScenesRead → ScenesRead
+soundScenes fault r =
+    cond (eqb fault 0) r
+    (record { good = r .good; count = r .count; lists = replicate 8 noList; roots = zeros 1024 })

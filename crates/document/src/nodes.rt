@@ -15,6 +15,7 @@ ghost use Rattle.document.specs.Lists.{nodesOf, rootsOf};
 
 pub(crate) mod steps; // steps.rt: through the text's arrays
 pub(crate) mod packing; // packing.rt: rule 16, the counts and the packed lists
+pub(crate) mod lists; // lists.rt: the lists as the tables have them
 pub(crate) mod links; // links.rt: children streamed, rules 41 and 42
 pub(crate) mod roots; // roots.rt: roots streamed, rules 44 to 46
 

@@ -5,3 +5,4 @@ pub mod Faults
 pub mod Exact
 pub mod Fit
 pub mod Inside
+pub mod Meaning

@@ -3,5 +3,6 @@ pub mod Elements
 pub mod Findings
 pub mod Views
 pub mod Accessors
+pub mod Meaning
 pub mod Fitness
 pub mod Places

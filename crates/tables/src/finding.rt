@@ -27,7 +27,7 @@ pub(crate) fn first_of(tests: &[bool]) -> u32
 }
 
 // The count, cut at the capacity.
-pub(crate) fn at_most(count: u32, capacity: u32) -> u32
+pub fn at_most(count: u32, capacity: u32) -> u32
     ensures { λ r. ⌜ r ≡ min count capacity ⌝ }
 {
     if count < capacity { count } else { capacity }

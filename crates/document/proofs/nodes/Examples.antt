@@ -10,7 +10,8 @@ use Rattle.json.specs.Integers.{decimal, spelled, integerOf}
 use Rattle.json.specs.Members.{lookup, fieldOf}
 use Rattle.document.specs.Members.{isObject}
 use Rattle.document.specs.Lists.{valuesOf, entryOf, integersGood, integersOf, listsGood, listsOf}
-use Rattle.document.specs.Lists.{'children', nodesGood, nodesOf}
+use Rattle.document.specs.Lists.{nodesGood, nodesOf}
+use Rattle.document.specs.Names.{'children'}
 
 -- a node with these children
 abbrev node : Json → Json
