@@ -6,3 +6,4 @@ pub mod Verdict
 pub mod Every
 pub mod Pigeonhole
 pub mod Bytes
+pub mod Stages
