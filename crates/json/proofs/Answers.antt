@@ -30,7 +30,7 @@ pub position : (s r : List ℕ) (p : ℕ) → p ≤ length s → drop p s ≡ r 
 position s r p l e = omega (arith, simp length-drop at (ap length e))
 
 -- a fault that broke is none of the other kind
-apart : broke ≡ deep → ⊥
+pub apart : broke ≡ deep → ⊥
 apart e = let z : _≡_ {A = ℕ} 0 1 = cc in omega arith
 
 -- the scan of a text and the parser agree
@@ -49,6 +49,11 @@ agree {s = s} (says-deep {p = p} l k) (lost deep r m) = ap Deep (position s r p 
 pub past : {w v : List ℕ} → Ws w v → Not IsWs v → past-ws w ≡ v
 unfolding past-ws
 past {w = w} x n = let k = ws-run w in ws-unique (k .1) (k .2) x n
+
+-- and that it follows
+pub past-says : (w : List ℕ) → Ws w (past-ws w) × Not IsWs (past-ws w)
+unfolding past-ws
+past-says w = let k = ws-run w in (k .1, k .2)
 
 -- { comes first
 pub scan-brace : (n : ℕ) {s v : List ℕ} → Ws s (0x7b ∷ v) → Not IsWs (0x7b ∷ v) → scanOf n s ≡ answer s (text-run n s)

@@ -73,7 +73,7 @@ word [] t = lit-none
 word (k ∷ ks) t = lit-more (word ks t)
 
 -- where a literal word breaks off
-lit-breaks : {ks w r : List ℕ} {f : Fault} → NoLit ks w f r → Breaks (λ v q. NoLit ks v f q) (Lit ks) w r
+pub lit-breaks : {ks w r : List ℕ} {f : Fault} → NoLit ks w f r → Breaks (λ v q. NoLit ks v f q) (Lit ks) w r
 lit-breaks (lit-bad {k = k} {ks = ks} n) =
     record {
       cut = none;
@@ -184,7 +184,7 @@ abbrev SomeDigits : List ℕ → List ℕ → Type 0
 SomeDigits w r = (ds : List ℕ) × Some w ds r
 
 -- where one digit or more breaks off
-some-breaks : {w r : List ℕ} {f : Fault} → NoSome w f r → Breaks (λ v q. NoSome v f q) SomeDigits w r
+pub some-breaks : {w r : List ℕ} {f : Fault} → NoSome w f r → Breaks (λ v q. NoSome v f q) SomeDigits w r
 some-breaks (some-bad n) =
     record {
       cut = none;
@@ -334,7 +334,7 @@ abbrev SomeName : List ℕ → List ℕ → Type 0
 SomeName w r = (k : List ℕ) × Name w k r
 
 -- where a member's name breaks off
-name-breaks : {w r : List ℕ} {f : Fault} → NoName w f r → Breaks (λ v q. NoName v f q) SomeName w r
+pub name-breaks : {w r : List ℕ} {f : Fault} → NoName w f r → Breaks (λ v q. NoName v f q) SomeName w r
 name-breaks (name-bad f) =
     record {
       cut = none;
@@ -379,7 +379,7 @@ SomeMembers w r = (ms : Fields) × Members w ms r
 
 mutual
   -- where a value breaks off
-  value-breaks : {n : ℕ} {w r : List ℕ} {f : Fault} → NoValue n w f r → Breaks (λ v q. NoValue n v f q) SomeValue w r
+  pub value-breaks : {n : ℕ} {w r : List ℕ} {f : Fault} → NoValue n w f r → Breaks (λ v q. NoValue n v f q) SomeValue w r
   value-breaks (val-in-scalar f g h) =
       let i = scalar-breaks h in
       record {

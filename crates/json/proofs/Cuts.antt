@@ -2,8 +2,9 @@
 -- as a function that puts it in front.
 -- Assumes nothing.
 use Prim.Native.Nat.{ℕ}
-use mathlib.Core.Path.{_≡_, refl, ap, _∙_}
+use mathlib.Core.Path.{_≡_, refl, sym, ap, _∙_}
 use mathlib.Core.List.{List, [], _∷_, _++_, append-assoc}
+use lib.ListN.{drop, take, take-append-drop}
 use Rattle.json.specs.Tree.{Json, Values, Fields}
 use Rattle.json.specs.Grammar.{Ws, Lit, Number, Hex, Escape, Chars, Scalar, Name, Value, Elements, Member}
 use Rattle.json.specs.Grammar.{Members}
@@ -35,6 +36,11 @@ pub record Cut (w r : List ℕ) : Type 0 where
 -- nothing was read
 abbrev pub none : {r : List ℕ} → Cut r r
 none = record { put = λ t. t; whole = refl; part = []; parts = λ t. refl }
+
+-- what a text has from a place on is its last part
+pub drop-cut : (s : List ℕ) (at : ℕ) → Cut s (drop at s)
+drop-cut s at =
+    record { put = λ t. take at s ++ t; whole = sym (take-append-drop at s); part = take at s; parts = λ t. refl }
 
 -- one byte, and then what was read behind it
 abbrev pub one : (b : ℕ) {w r : List ℕ} → Cut w r → Cut (b ∷ w) r

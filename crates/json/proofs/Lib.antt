@@ -1,18 +1,19 @@
 -- What the proofs of several functions use.
 pub mod Laws
-mod Questions
+pub mod Questions
 mod Nests
 pub mod Unique
 pub mod Excluded
 mod OneFault
-mod Cuts
+pub mod Cuts
 mod Breaks
 pub mod Marks
 mod Counts
 mod Depths
-mod Tops
-mod Answers
-mod Checks
+pub mod Tops
+pub mod Answers
+pub mod Checks
+pub mod Ends
 pub mod Exact
 pub mod Tree
 mod Examples

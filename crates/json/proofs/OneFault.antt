@@ -53,7 +53,7 @@ at : {r q : List ℕ} → r ≡ q → Same broke broke r q
 at e = record { kind = refl; place = e }
 
 -- a literal word breaks off at one place
-lit-same : {ks w r q : List ℕ} {f g : Fault} → NoLit ks w f r → NoLit ks w g q → Same f g r q
+pub lit-same : {ks w r q : List ℕ} {f g : Fault} → NoLit ks w f r → NoLit ks w g q → Same f g r q
 lit-same (lit-bad n) (lit-bad m) = same
 lit-same (lit-bad (not-head n)) (lit-on k) = absurd (n is)
 lit-same (lit-on h) (lit-bad (not-head m)) = absurd (m is)
@@ -93,7 +93,7 @@ chars-same (chars-after-escape e h) (chars-in-escape k) = absurd (no-escape k e)
 chars-same (chars-after-escape e h) (chars-after-escape e′ k) = chars-same h (rw (← escape-unique e e′ .1) at k)
 
 -- one digit or more breaks off at one place
-some-same : {w r q : List ℕ} {f g : Fault} → NoSome w f r → NoSome w g q → Same f g r q
+pub some-same : {w r q : List ℕ} {f g : Fault} → NoSome w f r → NoSome w g q → Same f g r q
 some-same (some-bad n) (some-bad m) = same
 
 -- an exponent breaks off at one place
@@ -154,7 +154,7 @@ scalar-same (sc-in-string h) (sc-in-number d k) = absurd (omega arith)
 scalar-same (sc-in-string h) (sc-in-string k) = chars-same h k
 
 -- a member's name breaks off at one place
-name-same : {w r q : List ℕ} {f g : Fault} → NoName w f r → NoName w g q → Same f g r q
+pub name-same : {w r q : List ℕ} {f g : Fault} → NoName w f r → NoName w g q → Same f g r q
 name-same (name-bad n) (name-bad m) = same
 name-same (name-bad (not-head n)) (name-in k) = absurd (n is)
 name-same (name-bad (not-head n)) (name-after c x y z) = absurd (n is)
@@ -166,12 +166,12 @@ name-same (name-after c x y z) (name-in k) = absurd (no-chars k c)
 name-same (name-after c x y z) (name-after c′ x′ y′ z′) = at (ws-unique x y (rw (← chars-unique c c′ .1) at x′) y′)
 
 -- no value of so few levels stands where a scan with so many levels broke off
-within : {f : Fault} {n d : ℕ} → Wrong f n d → d ≤ n → ⊥
+pub within : {f : Fault} {n d : ℕ} → Wrong f n d → d ≤ n → ⊥
 within (deeper h) l = lt-irrefl _ (lt-of-lt-of-le h l)
 
 mutual
   -- a value breaks off at one place
-  value-same : {n : ℕ} {w r q : List ℕ} {f g : Fault} → NoValue n w f r → NoValue n w g q → Same f g r q
+  pub value-same : {n : ℕ} {w r q : List ℕ} {f g : Fault} → NoValue n w f r → NoValue n w g q → Same f g r q
   value-same (val-in-scalar x y h) (val-in-scalar x′ y′ k) = scalar-same h k
   value-same (val-in-scalar x y h) val-deep-array = absurd (not-is x refl)
   value-same (val-in-scalar x y h) val-deep-object = absurd (not-is y refl)

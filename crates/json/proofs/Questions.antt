@@ -8,8 +8,10 @@ use mathlib.Core.Logic.{_⊎_, inl, inr, ⊎-elim}
 use borrow.Author.Tests.{eqb-true, eqb-false, leb-true, leb-false}
 use lib.Dec.{eqb, leb}
 use Rattle.laws.proofs.Tests.{by-test}
+use Rattle.json.specs.Grammar.{Plain}
 use Rattle.json.specs.Scans.{Tells}
 use Rattle.json.specs.Scans.Tells.{tells-true, tells-false}
+use Rattle.json.specs.Strings.{plain}
 
 -- an answer to one question is an answer to another that says the same
 pub tells-as : {P Q : Type 0} {t : Bool} → (P → Q) → (Q → P) → Tells P t → Tells Q t
@@ -64,3 +66,15 @@ or-this {t = t} b k y n =
     or-false : (t : Bool) → (t || false) ≡ t
     or-false true = refl
     or-false false = refl
+
+-- whether a byte stands for itself in a string
+pub plain-tells : (b : ℕ) → Tells (Plain b) (plain b)
+plain-tells b =
+    tells-as
+    (λ h. (h .0 .0 .0, h .0 .0 .1, h .0 .1, h .1))
+    (λ p. (((p .0, p .1), p .2), p .3))
+    (both (both (both (atMost 0x20 b) (atMost b 0xff)) (denied (same b 0x22))) (denied (same b 0x5c)))
+
+-- the same of an answer
+pub plain-said : {b : ℕ} {t : Bool} → t ≡ plain b → Tells (Plain b) t
+plain-said {b = b} e = rw e (plain-tells b)

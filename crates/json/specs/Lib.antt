@@ -9,10 +9,3 @@ pub mod Lengths
 pub mod Numbers
 pub mod Parse
 pub mod Answer
-pub mod Places
-pub mod Kinds
-pub mod Steps
-pub mod Words
-pub mod Integers
-pub mod Members
-pub mod Gathers

@@ -142,7 +142,7 @@ int-unique (to-int-more d h n) to-int-zero = absurd (omega arith)
 int-unique (to-int-more d h n) (to-int-more e k m) = let u = digits-unique h n k m in (cc, u .1)
 
 -- one digit or more, as long as it can be, is read in one way
-some-unique : {w ds es a b : List ℕ} → SomeTo w ds a → SomeTo w es b → (ds ≡ es) × (a ≡ b)
+pub some-unique : {w ds es a b : List ℕ} → SomeTo w ds a → SomeTo w es b → (ds ≡ es) × (a ≡ b)
 some-unique (to-some d h n) (to-some e k m) = let u = digits-unique h n k m in (cc, u .1)
 
 -- a fraction, as long as it can be, is read in one way

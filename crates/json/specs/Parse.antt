@@ -217,7 +217,7 @@ digits-run (b ∷ w) =
     ]
 
 -- reads a literal word
-lit-run : (ks w : List ℕ) → Got (Lit ks w) (NoLit ks w)
+pub lit-run : (ks w : List ℕ) → Got (Lit ks w) (NoLit ks w)
 unfolding ℕ-discrete
 lit-run [] w = got w lit-none
 lit-run (k ∷ ks) [] = lost broke [] (lit-bad not-end)
@@ -290,7 +290,7 @@ chars-run (suc n) (b ∷ w) l = elim (ℕ-discrete b 0x22) [
 ]
 
 -- numbers
-some-run : (w : List ℕ) → Got (SomeOk w) (NoSome w)
+pub some-run : (w : List ℕ) → Got (SomeOk w) (NoSome w)
 unfolding digit? digits-run
 some-run [] = lost broke [] (some-bad not-end)
 some-run (b ∷ w) =
@@ -432,7 +432,7 @@ quoted w =
     (λ f r m. name-in m)
 
 -- reads a member's name
-name-run : (w : List ℕ) → Got (NameOk w) (NoName w)
+pub name-run : (w : List ℕ) → Got (NameOk w) (NoName w)
 unfolding ℕ-discrete quoted
 name-run [] = lost broke [] (name-bad not-end)
 name-run (b ∷ w) = elim (ℕ-discrete b 0x22) [

@@ -29,6 +29,11 @@ pub data Peeks (s : List ℕ) (at : ℕ) : ℕ → Type 0 where
   peeks-end : at ≡ length s → drop at s ≡ [] → Peeks s at 256
   peeks-byte : {b : ℕ} → at < length s → b < 256 → drop at s ≡ b ∷ drop (at + 1) s → Peeks s at b
 
+-- r is the place `at`, or the end where `at` is past it
+pub record Clamped (s : List ℕ) (at r : ℕ) : Type 0 where
+  pub within : r ≤ length s
+  pub same : drop r s ≡ drop at s
+
 -- a test's answer t says whether P holds
 pub data Tells (P : Type 0) : Bool → Type 0 where
   tells-true : P → Tells P true

@@ -1,6 +1,8 @@
 // Questions about one byte. The number 256, which stands for the end of the input, is none of these.
-ghost use Rattle.json.specs.Grammar.{IsWs, HexDigit, Plain, Digit, IsE, IsSign, IsEscape};
+ghost use mathlib.Core.Path.{_≡_};
+ghost use Rattle.json.specs.Grammar.{IsWs, HexDigit, Digit, IsE, IsSign, IsEscape};
 ghost use Rattle.json.specs.Scans.{Tells};
+ghost use Rattle.json.specs.Strings.{plain};
 
 // White space.
 pub(crate) fn is_ws(b: usize) -> bool
@@ -24,8 +26,8 @@ pub(crate) fn is_hex(b: usize) -> bool
 }
 
 // A byte that stands for itself in a string.
-pub(crate) fn is_plain(b: usize) -> bool
-    ensures { λ r. ⌜ Tells (Plain b) r ⌝ }
+pub fn is_plain(b: usize) -> bool
+    ensures { λ r. ⌜ r ≡ plain b ⌝ }
 {
     (0x20 <= b) & (b <= 0xff) & (b != 0x22) & (b != 0x5c)
 }

@@ -5,13 +5,19 @@ ghost use Rattle.json.specs.Depth.{depthOf};
 
 mod answer;
 mod bytes;
-pub mod nav;
 mod number;
+mod places;
 mod string;
 mod token;
 mod value;
 
 pub use answer::Scan;
+pub use bytes::is_plain;
+pub use places::digits_at;
+pub use places::literal_at;
+pub use places::name_at;
+pub use places::past_ws;
+pub use places::value_at;
 pub use string::close;
 use token::peek;
 use token::skip_ws;

@@ -17,6 +17,7 @@ use Rattle.json.specs.Scans.{CharsSaid}
 use Rattle.json.specs.Scans.Says.{says-past, says-broke, says-deep}
 use Rattle.json.proofs.Laws.{Here, here, Byte, byte, peeked-not, untold, says-as, said-past, said-broke}
 use Rattle.json.proofs.Laws.{said-deep, later}
+use Rattle.json.proofs.Questions.{plain-said}
 use Rattle.json.specs.Lengths.{escape-shorter}
 use Rattle.json.proofs.string.chars.Statement.{statement}
 use Rattle.json.proofs.string.chars.Tie as tie
@@ -104,21 +105,21 @@ is-plain-requires c κs = search needs
 add-i : tie.Need-add-i Inv-loop μ-loop
 add-i c =
     let h =
-    here Plain (λ d. omega arith) (c .before .before .before .before .peek .ensures) (c .before .is-plain .ensures)
+    here Plain (λ d. omega arith) (c .before .before .before .before .peek .ensures) (plain-said (c .before .is-plain .ensures))
     (c .if3 .taken) in
     omega arith
 
 loop-less-2 : tie.Need-loop-less-2 Inv-loop μ-loop
 loop-less-2 c =
     let h =
-    here Plain (λ d. omega arith) (c .before .before .before .before .peek .ensures) (c .before .is-plain .ensures)
+    here Plain (λ d. omega arith) (c .before .before .before .before .peek .ensures) (plain-said (c .before .is-plain .ensures))
     (c .if3 .taken) in
     omega arith
 
 loop-again-2 : tie.Need-loop-again-2 Inv-loop μ-loop
 loop-again-2 c =
     let h = here Plain (λ d. omega arith) (c .before .before .before .before .peek .ensures)
-    (c .before .is-plain .ensures) (c .if3 .taken) in
+    (plain-said (c .before .is-plain .ensures)) (c .if3 .taken) in
     (omega arith, λ o a. c .before .before .before .before .before .loop .inv .1 o (plain-step h a))
 
 other : (b : ℕ) → (b ≡ 0x22 → ⊥) → (b ≡ 0x5c → ⊥) → (Plain b → ⊥) → InChars b → ⊥
@@ -130,7 +131,7 @@ returns-4 : tie.Need-returns-4 Inv-loop μ-loop
 returns-4 c =
     let l = c .before .before .before .before .before .loop in
     let n = other _ (c .before .before .before .if1 .left) (c .before .before .if2 .left)
-    (untold (c .before .is-plain .ensures) (c .if3 .left)) in
+    (untold (plain-said (c .before .is-plain .ensures)) (c .if3 .left)) in
     l .inv .1 _ (says-broke (l .inv .0) (chars-bad (peeked-not (c .before .before .before .before .peek .ensures) n)))
 
 pub chars-spec : {M : Type 1} → statement M
