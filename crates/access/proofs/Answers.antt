@@ -1,7 +1,7 @@
 -- The value by cases: of a sparse entry, of the accessor's own view.
 -- Assumes nothing.
 use Prim.Native.Nat.{ℕ, _<_, _≤_}
-use mathlib.Core.Path.{_≡_, refl, ap, _∙_}
+use mathlib.Core.Path.{_≡_, ap, _∙_}
 use mathlib.Core.Bool.{Bool, true, false, cond, _&&_}
 use mathlib.Core.List.{List}
 use borrow.Author.Tests.{lt-ltb, le-ltb}
@@ -9,14 +9,8 @@ use lib.Dec.{ltb}
 use Rattle.tables.specs.declared.selection.Selection.{Selection}
 use lib.IntN.{pos}
 use Rattle.tables.specs.Places.{componentAt}
+use Rattle.tables.proofs.Truth.{and-left, and-right}
 use Rattle.access.specs.Readings.{numberAt, entryFor, replaced, ownValue, entryValue, valueIn}
-
-and-left : (a b : Bool) → a ≡ false → (a && b) ≡ false
-and-left a b p = ap (λ (t : Bool). t && b) p
-
-and-right : (a b : Bool) → b ≡ false → (a && b) ≡ false
-and-right true b q = q
-and-right false b q = refl
 
 module _ (f : List ℕ) (s : Selection) (e c : ℕ) where
   by : (b : Bool) → replaced f s e ≡ b → valueIn f s e c ≡ cond b (entryValue f s (entryFor f s e) c) (ownValue f s e c)

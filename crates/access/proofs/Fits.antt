@@ -5,17 +5,21 @@ use mathlib.Core.Path.{_≡_, refl}
 use mathlib.Core.Bool.{true, false, _||_}
 use native.Mathlib.Nat.{mul-suc}
 use native.Mathlib.Omega.{arith}
-use lib.Dec.{leb}
+use borrow.Author.Tests.{eqb-true}
+use lib.Dec.{leb, eqb}
+use lib.ListN.{length, take, drop}
+use mathlib.Core.List.{List}
 use Rattle.laws.proofs.Tests.{by-test}
+use Rattle.tables.specs.declared.Tables.{Tables}
 use Rattle.tables.specs.declared.selection.Selection.{Selection}
 use Rattle.tables.specs.declared.selection.ViewSelection.{ViewSelection}
-use Rattle.tables.specs.Elements.{componentSize, componentCount, componentPlace, elementBytes}
+use Rattle.tables.specs.Elements.{componentSize, componentCount, componentPlace}
 use Rattle.tables.specs.Accessors.{layoutOf}
-use Rattle.tables.specs.Fitness.{accessorUnfit, viewUnfit}
+use Rattle.tables.specs.Fitness.{accessorUnfit, viewSelectionOf, viewUnfit}
 use Rattle.tables.specs.Places.{layoutIn, firstByte, componentAt, indexAt, valueAt}
 use Rattle.tables.proofs.Fit.{good}
-use Rattle.access.specs.Views.{viewNumberIn}
-use Rattle.tables.proofs.Inside.{component-in-file, index-in-file, value-in-file}
+use Rattle.access.specs.Views.{viewStart, viewNumberIn, viewNumberOf, viewPlaceOf, viewOf}
+use Rattle.tables.proofs.Inside.{component-in-file, index-in-file, value-in-file, view-in-file}
 
 pred : (n : ℕ) → 0 < n → suc (n - 1) ≡ n
 pred n h = omega arith
@@ -24,19 +28,19 @@ module _ (s : Selection) where
   -- the place of a component in the accessor's own view, as a sum
   pub own-sum : (e c : ℕ)
       → s .extent .«buffer_start» + s .own .«byte_offset» + s .accessor .«byte_offset»
-      + layoutOf (s .accessor) (s .own) .stride * e
-      + componentPlace (componentSize (s .accessor .«component_type»)) (s .accessor .«element_type») c
+      + layoutIn s .stride * e
+      + componentPlace (layoutIn s .component) (s .accessor .«element_type») c
       ≡ componentAt s e c
-  unfolding componentAt firstByte layoutOf
+  unfolding componentAt firstByte
   own-sum e c = refl
 
   -- in values element k
   pub entry-sum : (k c : ℕ)
       → s .extent .«buffer_start» + s .values .«byte_offset» + s .accessor .sparse .«values_offset»
-      + elementBytes (componentSize (s .accessor .«component_type»)) (s .accessor .«element_type») * k
-      + componentPlace (componentSize (s .accessor .«component_type»)) (s .accessor .«element_type») c
+      + layoutIn s .element * k
+      + componentPlace (layoutIn s .component) (s .accessor .«element_type») c
       ≡ valueAt s k c
-  unfolding valueAt layoutOf
+  unfolding valueAt
   entry-sum k c = refl
 
   -- the place of the first index
@@ -44,6 +48,11 @@ module _ (s : Selection) where
       s .extent .«buffer_start» + s .indices .«byte_offset» + s .accessor .sparse .«indices_offset» ≡ indexAt s 0
   unfolding indexAt
   index-sum = omega arith
+
+  -- the size of a component
+  pub component-size : layoutIn s .component ≡ componentSize (s .accessor .«component_type»)
+  unfolding layoutOf
+  component-size = refl
 
   -- the size of an index
   pub index-size : layoutIn s .index ≡ componentSize (s .accessor .sparse .«indices_type»)
@@ -87,3 +96,19 @@ answered-fits bytes s i e =
     (λ u. absurd (omega (arith, rw u at e)))
     (λ u. absurd (omega (arith, rw (u, t) at e))))
     (λ t. t)
+
+-- the place of a view lies within the file, ..
+pub place-in-file : (f : List ℕ) (t : Tables) (i : ℕ)
+    → viewPlaceOf f t i .start + viewPlaceOf f t i .length ≤ length f
+unfolding viewPlaceOf viewNumberOf viewStart
+place-in-file f t i =
+    let s = viewSelectionOf t i in
+    by-test (eqb (viewNumberIn (length f) s i) 0)
+    (λ e. rw e (view-in-file (length f) s (answered-fits (length f) s i (eqb-true _ 0 e))))
+    (λ e. rw e (omega arith))
+
+-- .. and the view is the bytes there
+pub view-at-place : (f : List ℕ) (t : Tables) (i : ℕ)
+    → take (viewPlaceOf f t i .length) (drop (viewPlaceOf f t i .start) f) ≡ viewOf f t i
+unfolding viewPlaceOf viewOf
+view-at-place f t i = by-test (eqb (viewNumberOf f t i) 0) (λ e. rw e) (λ e. rw e)

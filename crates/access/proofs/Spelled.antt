@@ -9,7 +9,7 @@ use native.Mathlib.Omega.{arith}
 use borrow.Author.Tests.{ne-eqb, eqb-true}
 use lib.Dec.{eqb}
 use lib.ListN.{getD}
-use Rattle.tables.proofs.Elements.{isSize}
+use Rattle.tables.specs.Elements.{isSize}
 use Rattle.laws.specs.Bytes.{littleAt}
 use Rattle.laws.proofs.Bytes.{littleAt-suc, littleAt-zero}
 

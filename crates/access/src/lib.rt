@@ -7,7 +7,7 @@ use tables::selection::ViewSelection;
 ghost use mathlib.Core.Path.{_≡_};
 ghost use Rattle.tables.specs.Fitness.{selectionOf};
 ghost use Rattle.access.specs.Readings.{componentIn, componentOf};
-ghost use Rattle.access.specs.Views.{viewNumberIn, viewNumberOf, viewOf};
+ghost use Rattle.access.specs.Views.{viewNumberIn, viewNumberOf, viewPlaceOf, viewOf, StartsAt};
 
 mod numbers;
 mod values;
@@ -17,6 +17,13 @@ mod values;
 pub struct Reading {
     pub number: u32,
     pub value: i64,
+}
+
+// Where a part lies in the file.
+#[repr(C)]
+pub struct Place {
+    pub start: usize,
+    pub length: usize,
 }
 
 fn refused(number: u32) -> Reading
@@ -36,8 +43,8 @@ pub fn select(t: Tables, accessor: u32) -> Selection
 pub fn component_in(file: &[u8], s: Selection, element: u32, component: u32) -> Reading
     ensures { λ r. ⌜ r ≡ componentIn (now (file .entry)) s element component ⌝ }
 {
-    let unfit = selection::accessor_unfit(file.len(), s);
-    if unfit {
+    let fit = selection::accessor_fit(file.len(), s);
+    if fit.unfit {
         return refused(63);
     }
     if s.accessor.count <= element {
@@ -47,7 +54,7 @@ pub fn component_in(file: &[u8], s: Selection, element: u32, component: u32) -> 
     if components <= component {
         return refused(62);
     }
-    let value = values::value_in(file, s, element, component);
+    let value = values::value_in(file, s, fit, element, component);
     Reading { number: 0, value }
 }
 
@@ -62,7 +69,8 @@ pub fn component(file: &[u8], t: Tables, accessor: u32, element: u32, component:
     component_in(file, s, element, component)
 }
 
-fn view_number_in(bytes: usize, s: ViewSelection, view: u32) -> u32
+// The number for the view selected, over so many lent bytes. The selection is trusted no more than tables.
+pub fn view_number_in(bytes: usize, s: ViewSelection, view: u32) -> u32
     ensures { λ r. ⌜ r ≡ viewNumberIn bytes s view ⌝ }
 {
     if (s.extent.views <= view) | (64 <= view) {
@@ -80,16 +88,30 @@ pub fn view_number(file: &[u8], t: Tables, view: u32) -> u32
     view_number_in(file.len(), s, view)
 }
 
-// The view's bytes, a part of the file lent; refused, an empty part.
-pub fn view(file: &[u8], t: Tables, view: u32) -> &[u8]
-    ensures { λ r. ⌜ now r ≡ viewOf (now (file .entry)) t view ⌝ }
+// Where the view lies in the file; refused, start and length are 0.
+pub fn view_place(file: &[u8], t: Tables, view: u32) -> Place
+    ensures { λ r. ⌜ r ≡ viewPlaceOf (now (file .entry)) t view ⌝ }
 {
-    let s = selection::select_view(t, view);
-    let number = view_number_in(file.len(), s, view);
+    let v = selection::select_view(t, view);
+    let number = view_number_in(file.len(), v, view);
     if number != 0 {
-        return &file[0..0];
+        return Place {
+            start: 0,
+            length: 0,
+        };
     }
-    let start = s.extent.buffer_start as usize + s.view.byte_offset as usize;
-    let end = start + s.view.byte_length as usize;
+    let start = v.extent.buffer_start as usize + v.view.byte_offset as usize;
+    let length = v.view.byte_length as usize;
+    Place { start, length }
+}
+
+// The view's bytes, a part of the file lent and no copy: it starts that far into the file. Refused, an empty part.
+pub fn view(file: &[u8], t: Tables, view: u32) -> &[u8]
+    ensures { λ r. ⌜ (now r ≡ viewOf (now (file .entry)) t view)
+        × StartsAt r (file .entry) (viewPlaceOf (now (file .entry)) t view .start) ⌝ }
+{
+    let place = view_place(file, t, view);
+    let start = place.start;
+    let end = start + place.length;
     &file[start..end]
 }

@@ -1,13 +1,11 @@
 // From the bytes of a component to its number.
-use tables::layout;
 ghost use mathlib.Core.Path.{_≡_};
 ghost use mathlib.Core.Bool.{true, _||_};
 ghost use Prim.Native.Nat.{_+_, _*_, _^_, _<_, _≤_};
 ghost use lib.Dec.{eqb};
 ghost use lib.ListN.{length};
 ghost use Rattle.laws.specs.Bytes.{littleAt};
-ghost use Rattle.tables.specs.Elements.{componentSize};
-ghost use Rattle.tables.proofs.Elements.{isSize};
+ghost use Rattle.tables.specs.Elements.{componentSize, isSize};
 ghost use Rattle.access.specs.Numbers.{twos, decode};
 ghost use Rattle.access.specs.Readings.{numberAt};
 
@@ -72,12 +70,12 @@ fn decoded(component_type: u32, n: u64) -> i64
     }
 }
 
-// The component of this type that starts at byte `at`.
-pub(crate) fn number_at(file: &[u8], component_type: u32, at: usize) -> i64
-    requires { ⌜ at + componentSize «component_type» ≤ length (now file) ⌝ }
+// The component of this type, of so many bytes, that starts at byte `at`.
+pub(crate) fn number_at(file: &[u8], component_type: u32, size: u32, at: usize) -> i64
+    requires { ⌜ size ≡ componentSize «component_type» ⌝ }
+    requires { ⌜ at + size ≤ length (now file) ⌝ }
     ensures { λ r. ⌜ r ≡ numberAt (now (file .entry)) «component_type» at ⌝ }
 {
-    let size = layout::component_size(component_type);
     let n = little_at(file, at, size);
     decoded(component_type, n)
 }

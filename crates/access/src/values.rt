@@ -1,16 +1,15 @@
 // The value of a component, where nothing is refused.
 use crate::numbers;
-use tables::accessors;
 use tables::layout;
+use tables::selection::Fit;
 use tables::selection::Selection;
 ghost use mathlib.Core.Path.{_≡_};
 ghost use mathlib.Core.Bool.{true, false, _||_};
 ghost use Prim.Native.Nat.{_+_, _*_, _^_, _<_, _≤_};
 ghost use lib.Dec.{eqb};
 ghost use lib.ListN.{length};
-ghost use Rattle.tables.specs.Elements.{componentCount};
-ghost use Rattle.tables.specs.Fitness.{accessorUnfit};
-ghost use Rattle.tables.proofs.Elements.{isSize};
+ghost use Rattle.tables.specs.Elements.{isSize, componentCount};
+ghost use Rattle.tables.specs.Fitness.{accessorUnfit, fitOf};
 ghost use Rattle.access.specs.Readings.{sparseFind, entryFor, ownValue, entryValue, valueIn};
 
 fn sum(a: u32, b: u32, c: u32) -> u64
@@ -20,11 +19,11 @@ fn sum(a: u32, b: u32, c: u32) -> u64
 }
 
 // Where the part at `inner` of item k starts, the items lying `step` bytes apart.
-fn place(first: u64, step: u32, k: u32, inner: u32) -> u64
+fn place(first: u64, step: u32, k: u32, inner: u64) -> u64
     requires { ⌜ first + step * k + inner < 2 ^ 63 ⌝ }
     ensures { λ r. ⌜ r ≡ first + step * k + inner ⌝ }
 {
-    first + (step as u64) * (k as u64) + (inner as u64)
+    first + (step as u64) * (k as u64) + inner
 }
 
 // The first of `count` indices, each of `size` bytes from `first` on, that is the element; `count` if there is none.
@@ -61,53 +60,54 @@ fn entry_for(file: &[u8], s: Selection, element: u32) -> u32
 }
 
 // The component in values element k.
-fn entry_value(file: &[u8], s: Selection, k: u32, component: u32) -> i64
+fn entry_value(file: &[u8], s: Selection, f: Fit, k: u32, component: u32) -> i64
     requires { ⌜ accessorUnfit (length (now file)) s ≡ false ⌝ }
+    requires { ⌜ f ≡ fitOf (length (now file)) s ⌝ }
     requires { ⌜ s .accessor .«has_sparse» ≡ true ⌝ }
     requires { ⌜ (k < s .accessor .sparse .count) × (component < componentCount (s .accessor .«element_type»)) ⌝ }
     ensures { λ r. ⌜ r ≡ entryValue (now (file .entry)) s k component ⌝ }
 {
     let a = s.accessor;
-    let element = layout::element_bytes(a.component_type, a.element_type);
-    let inner = layout::component_place(a.component_type, a.element_type, component);
+    let inner = layout::component_place(f.component, a.element_type, component);
     let first = sum(
         s.extent.buffer_start,
         s.values.byte_offset,
         a.sparse.values_offset,
     );
-    let at = place(first, element, k, inner);
-    numbers::number_at(file, a.component_type, at as usize)
+    let at = place(first, f.element, k, inner);
+    numbers::number_at(file, a.component_type, f.component, at as usize)
 }
 
 // The component in the accessor's own view, zero without one.
-fn own_value(file: &[u8], s: Selection, element: u32, component: u32) -> i64
+fn own_value(file: &[u8], s: Selection, f: Fit, element: u32, component: u32) -> i64
     requires { ⌜ accessorUnfit (length (now file)) s ≡ false ⌝ }
+    requires { ⌜ f ≡ fitOf (length (now file)) s ⌝ }
     requires { ⌜ (element < s .accessor .count) × (component < componentCount (s .accessor .«element_type»)) ⌝ }
     ensures { λ r. ⌜ r ≡ ownValue (now (file .entry)) s element component ⌝ }
 {
     let a = s.accessor;
     let own = s.own;
     if a.has_buffer_view {
-        let l = accessors::layout_of(a, own);
-        let inner = layout::component_place(a.component_type, a.element_type, component);
+        let inner = layout::component_place(f.component, a.element_type, component);
         let first = sum(s.extent.buffer_start, own.byte_offset, a.byte_offset);
-        let at = place(first, l.stride, element, inner);
-        return numbers::number_at(file, a.component_type, at as usize);
+        let at = place(first, f.stride, element, inner);
+        return numbers::number_at(file, a.component_type, f.component, at as usize);
     }
     0
 }
 
 // The component of the element.
-pub(crate) fn value_in(file: &[u8], s: Selection, element: u32, component: u32) -> i64
+pub(crate) fn value_in(file: &[u8], s: Selection, f: Fit, element: u32, component: u32) -> i64
     requires { ⌜ accessorUnfit (length (now file)) s ≡ false ⌝ }
+    requires { ⌜ f ≡ fitOf (length (now file)) s ⌝ }
     requires { ⌜ (element < s .accessor .count) × (component < componentCount (s .accessor .«element_type»)) ⌝ }
     ensures { λ r. ⌜ r ≡ valueIn (now (file .entry)) s element component ⌝ }
 {
     if s.accessor.has_sparse {
         let k = entry_for(file, s, element);
         if k < s.accessor.sparse.count {
-            return entry_value(file, s, k, component);
+            return entry_value(file, s, f, k, component);
         }
     }
-    own_value(file, s, element, component)
+    own_value(file, s, f, element, component)
 }

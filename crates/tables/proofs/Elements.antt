@@ -10,15 +10,10 @@ use native.Mathlib.Omega.{arith}
 use borrow.Author.Tests.{lt-ltb, ltb-true, ltb-false, eqb-true, eqb-false, ne-eqb}
 use lib.Dec.{T, eqb, ltb, leb, eqb→eq, leb→le}
 use lib.ListN.{getD, List·getD-eq-default}
-use Rattle.laws.proofs.Tests.{by-test}
+use Rattle.laws.proofs.Tests.{by-test, or-false}
 use Rattle.laws.proofs.Every.{at, at2}
-use Rattle.tables.proofs.Truth.{or-false}
-use Rattle.tables.specs.Elements.{componentSize, rows, columns, isMatrix, componentCount}
+use Rattle.tables.specs.Elements.{componentSize, isSize, rows, columns, isMatrix, componentCount}
 use Rattle.tables.specs.Elements.{columnBytes, componentPlace, elementBytes, lastElementBytes}
-
--- s is the size of a component: 1, 2 or 4
-abbrev pub isSize : ℕ → Bool
-isSize s = eqb s 1 || eqb s 2 || eqb s 4
 
 -- a component type's size is 1, 2 or 4, or it is 0
 pub size-is : (componentType : ℕ) → (isSize (componentSize componentType) || eqb (componentSize componentType) 0) ≡ true
@@ -27,6 +22,12 @@ size-is t =
     by-test (eqb t 5120 || eqb t 5121) (λ e. rw e)
     (λ e. by-test (eqb t 5122 || eqb t 5123) (λ f. rw (e, f))
     (λ f. by-test (eqb t 5125 || eqb t 5126) (λ g. rw (e, f, g)) (λ g. rw (e, f, g))))
+
+-- such a size is below 5
+pub size-below : (s : ℕ) → (isSize s || eqb s 0) ≡ true → s < 5
+size-below s e =
+    by-test (ltb s 5) (λ t. ltb-true s 5 t)
+    (λ t. let l = ltb-false s 5 t in absurd (true≢false (sym e ∙ rw (ne-eqb s 1 (λ q. omega arith), ne-eqb s 2 (λ q. omega arith), ne-eqb s 4 (λ q. omega arith), ne-eqb s 0 (λ q. omega arith)))))
 
 -- there is no number of components for no type
 pub no-type : (type : ℕ) → 7 < type → componentCount type ≡ 0
@@ -89,7 +90,7 @@ pub within-last : (size type component : ℕ) → component < componentCount typ
 unfolding lastElementBytes
 within-last size type c h = within size type c h
 
--- a component type's size is below 5, ..
+-- a component type's size is below 5
 pub size-lt : (componentType : ℕ) → componentSize componentType < 5
 unfolding componentSize
 size-lt t =
@@ -97,9 +98,9 @@ size-lt t =
     (λ e. by-test (eqb t 5122 || eqb t 5123) (λ f. rw (e, f) (omega arith))
     (λ f. by-test (eqb t 5125 || eqb t 5126) (λ g. rw (e, f, g) (omega arith)) (λ g. rw (e, f, g) (omega arith))))
 
--- .. and where it is not 0, it is 1, 2 or 4
-pub size-some : (componentType : ℕ) → (componentSize componentType ≡ 0 → ⊥) → isSize (componentSize componentType) ≡ true
-size-some t h = or-first (isSize (componentSize t)) _ (size-is t) (ne-eqb _ 0 h)
+-- a size that is not 0 is 1, 2 or 4
+pub some-size : (s : ℕ) → (isSize s || eqb s 0) ≡ true → (s ≡ 0 → ⊥) → isSize s ≡ true
+some-size s e h = or-first (isSize s) _ e (ne-eqb _ 0 h)
   where
     or-first : (a b : Bool) → (a || b) ≡ true → b ≡ false → a ≡ true
     or-first true b e f = refl
@@ -137,6 +138,18 @@ matrix-place size type c hl hh h =
     (implied (ltb 4 type) _ (at 8 (λ t. not (ltb 4 t) || eqb (rows t) (t - 3)) tt type (omega arith))
     (lt-ltb 4 type hl)) in
     rw (lt-ltb c (componentCount type) h, lt-ltb 4 type hl, r)
+
+-- the components of a vector or scalar, and of a matrix, which has as many columns as rows
+pub vector-count : (type : ℕ) → type < 5 → type ≡ componentCount type
+unfolding componentCount
+vector-count type h = eqb→eq _ _ (at 5 (λ t. eqb t (componentCount t)) tt type h)
+
+pub matrix-count : (type : ℕ) → 5 ≤ type → type ≤ 7 → (type - 3) * (type - 3) ≡ componentCount type
+unfolding componentCount
+matrix-count type hl hh =
+    eqb→eq _ _
+    (implied (ltb 4 type) _ (at 8 (λ t. not (ltb 4 t) || eqb ((t - 3) * (t - 3)) (componentCount t)) tt type (omega arith))
+    (lt-ltb 4 type hl))
 
 -- an element has at most 16 components
 pub count-le : (type : ℕ) → type ≤ 7 → componentCount type ≤ 16

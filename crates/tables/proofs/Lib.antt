@@ -5,4 +5,5 @@ pub mod Faults
 pub mod Exact
 pub mod Fit
 pub mod Inside
+pub mod Unfits
 pub mod Meaning

@@ -1,26 +1,29 @@
 -- Boolean tests that fail or hold, taken apart.
 -- Assumes nothing.
 use Prim.Native.Nat.{ℕ, zero, suc, _+_}
-use mathlib.Core.Path.{_≡_, refl, sym, _∙_}
-use mathlib.Core.Bool.{Bool, true, false, _||_, _&&_, true≢false}
+use mathlib.Core.Path.{_≡_, refl, sym, ap, _∙_}
+use mathlib.Core.Bool.{Bool, true, false, _&&_, true≢false}
 use mathlib.Core.List.{List, [], _∷_}
 use native.Mathlib.Omega.{arith}
 use borrow.Author.Tests.{lt-ltb, le-ltb, ltb-true, ltb-false}
 use lib.Dec.{ltb, leb·suc-suc}
 use lib.ListN.{length, getD}
 use Rattle.laws.specs.Search.{firstTrue}
-use Rattle.laws.proofs.Tests.{by-test}
+use Rattle.laws.proofs.Tests.{by-test, or-false}
 use Rattle.tables.specs.Fitness.{anyTrue}
-
--- neither of two tests holds
-pub or-false : (a b : Bool) → (a || b) ≡ false → (a ≡ false) × (b ≡ false)
-or-false true b e = absurd (true≢false e)
-or-false false b e = (refl, e)
 
 -- a test that is asked only with the flag, and fails, fails with the flag
 pub and-false : (a b : Bool) → (a && b) ≡ false → a ≡ true → b ≡ false
 and-false true b e t = e
 and-false false b e t = absurd (true≢false (sym t))
+
+-- a conjunction with a test that fails
+pub and-left : (a b : Bool) → a ≡ false → (a && b) ≡ false
+and-left a b p = ap (λ (t : Bool). t && b) p
+
+pub and-right : (a b : Bool) → b ≡ false → (a && b) ≡ false
+and-right true b q = q
+and-right false b q = refl
 
 -- the number of the first test that holds, below the last, says that one holds
 pub any-first : (tests : List Bool) → anyTrue tests ≡ ltb (firstTrue tests) (length tests)

@@ -6,3 +6,4 @@ pub mod Accessors
 pub mod Meaning
 pub mod Fitness
 pub mod Places
+pub mod Stages

@@ -1,14 +1,17 @@
 // Rules 25 to 39, of one accessor and of all.
 use crate::Accessor;
 use crate::BufferView;
+use crate::Sparse;
 use crate::finding;
 use crate::finding::Finding;
 use crate::layout;
 ghost use mathlib.Core.Path.{_≡_};
+ghost use mathlib.Core.Bool.{true};
 ghost use Prim.Native.Nat.{_+_, _-_, _*_};
 ghost use Rattle.laws.specs.Search.{firstTrue};
 ghost use Rattle.tables.specs.Accessors.{effectiveStride, alignment, layoutOf, uneven, misplaced, passes};
 ghost use Rattle.tables.specs.Accessors.{elementTests, sparseTests, accessorFault, accessorsFinding};
+ghost use Rattle.tables.specs.Stages.{ownLayout, placeTests, packedTests};
 
 // How an accessor's elements lie in its view: bytes of a component, of an element and of the last one, the effective
 // stride, what places are multiples of; and the bytes of a sparse index.
@@ -38,20 +41,35 @@ fn alignment_of(size: u32, element_type: u32) -> u32
     if 4 < element_type { 4 } else { size }
 }
 
-pub fn layout_of(a: Accessor, v: BufferView) -> Layout
-    ensures { λ r. ⌜ r ≡ layoutOf a v ⌝ }
+// The layout without sparse: no bytes of an index.
+pub(crate) fn own_layout(a: Accessor, v: BufferView) -> Layout
+    ensures { λ r. ⌜ r ≡ ownLayout a v ⌝ }
 {
     let component = layout::component_size(a.component_type);
-    let element = layout::element_bytes(a.component_type, a.element_type);
+    let element = layout::element_bytes(component, a.element_type);
     let stride = stride_of(v, element);
     let alignment = alignment_of(component, a.element_type);
-    let index = layout::component_size(a.sparse.indices_type);
     Layout {
         component,
         element,
         last: element,
         stride,
         alignment,
+        index: 0,
+    }
+}
+
+pub fn layout_of(a: Accessor, v: BufferView) -> Layout
+    ensures { λ r. ⌜ r ≡ layoutOf a v ⌝ }
+{
+    let own = own_layout(a, v);
+    let index = layout::component_size(a.sparse.indices_type);
+    Layout {
+        component: own.component,
+        element: own.element,
+        last: own.last,
+        stride: own.stride,
+        alignment: own.alignment,
         index,
     }
 }
@@ -60,11 +78,14 @@ pub fn layout_of(a: Accessor, v: BufferView) -> Layout
 fn is_uneven(x: u64, m: u32) -> bool
     ensures { λ r. ⌜ r ≡ uneven x m ⌝ }
 {
-    if (m == 1) | (m == 2) | (m == 4) {
-        return ((m == 2) & (x % 2 != 0)) | ((m == 4) & (x % 4 != 0));
+    if m == 4 {
+        return x % 4 != 0;
     }
-    if m == 0 {
-        return x != 0;
+    if m == 2 {
+        return x % 2 != 0;
+    }
+    if m < 2 {
+        return (m == 0) & (x != 0);
     }
     x % (m as u64) != 0
 }
@@ -93,36 +114,70 @@ fn is_past(byte_offset: u32, step: u32, count: u32, last: u32, byte_length: u32)
     (byte_length as u64) < end
 }
 
-// The smallest of the rules 25 to 33 that the accessor breaks, 34 if none.
-fn element_fault(views: u32, placed: bool, a: Accessor, own: BufferView, l: Layout) -> u32
-    ensures { λ r. ⌜ r ≡ 25 + firstTrue (elementTests views placed a own l) ⌝ }
+// The smallest of the rules 30 to 33 that the elements break in their view, 34 if none.
+fn place_fault(a: Accessor, own: BufferView, l: Layout) -> u32
+    ensures { λ r. ⌜ r ≡ 30 + firstTrue (placeTests a own l) ⌝ }
 {
     let uneven = is_uneven(l.stride as u64, l.component);
+    if uneven {
+        return 30;
+    }
+    if l.stride < l.element {
+        return 31;
+    }
     let misplaced = is_misplaced(a.byte_offset, own.byte_offset, l.alignment);
+    if misplaced {
+        return 32;
+    }
     let past = is_past(a.byte_offset, l.stride, a.count, l.last, own.byte_length);
-    let has = a.has_buffer_view;
-    let t = a.component_type;
-    let tests = [
-        (has & (views <= a.buffer_view)) | (!has & placed),
-        (t != 5120) & (t != 5121) & (t != 5122) & (t != 5123) & (t != 5125) & (t != 5126),
-        (a.element_type == 0) | (7 < a.element_type),
-        a.count == 0,
-        a.normalized & ((t == 5125) | (t == 5126)),
-        has & uneven,
-        has & (l.stride < l.element),
-        has & misplaced,
-        has & past,
-    ];
-    25 + finding::first_of(&tests)
+    if past {
+        return 33;
+    }
+    34
 }
 
-// The smallest of the rules 34 to 39 that the accessor breaks, 40 if none.
-fn sparse_fault(views: u32, a: Accessor, indices: BufferView, values: BufferView, l: Layout) -> u32
-    ensures { λ r. ⌜ r ≡ 34 + firstTrue (sparseTests views a indices values l) ⌝ }
+// The smallest of the rules 25 to 33 that the accessor breaks, 34 if none.
+pub(crate) fn element_fault(
+    views: u32,
+    placed: bool,
+    a: Accessor,
+    own: BufferView,
+    l: Layout,
+) -> u32
+    ensures { λ r. ⌜ r ≡ 25 + firstTrue (elementTests views placed a own l) ⌝ }
 {
-    let s = a.sparse;
+    let has = a.has_buffer_view;
+    let t = a.component_type;
+    if (has & (views <= a.buffer_view)) | (!has & placed) {
+        return 25;
+    }
+    if (t != 5120) & (t != 5121) & (t != 5122) & (t != 5123) & (t != 5125) & (t != 5126) {
+        return 26;
+    }
+    if (a.element_type == 0) | (7 < a.element_type) {
+        return 27;
+    }
+    if a.count == 0 {
+        return 28;
+    }
+    if a.normalized & ((t == 5125) | (t == 5126)) {
+        return 29;
+    }
+    if has {
+        return place_fault(a, own, l);
+    }
+    34
+}
+
+// Rules 38 and 39 of the two views of sparse: 38, 39, or 40 if none is broken.
+fn packed_fault(s: Sparse, indices: BufferView, values: BufferView, l: Layout) -> u32
+    ensures { λ r. ⌜ r ≡ 38 + firstTrue (packedTests s indices values l) ⌝ }
+{
     let misplaced_values = is_misplaced(s.values_offset, values.byte_offset, l.alignment);
     let misplaced_indices = is_misplaced(s.indices_offset, indices.byte_offset, l.index);
+    if misplaced_values | misplaced_indices {
+        return 38;
+    }
     let past_indices = is_past(
         s.indices_offset,
         l.index,
@@ -137,20 +192,38 @@ fn sparse_fault(views: u32, a: Accessor, indices: BufferView, values: BufferView
         l.last,
         values.byte_length,
     );
+    if past_indices | past_values { 39 } else { 40 }
+}
+
+// The smallest of the rules 34 to 39 that an accessor with sparse breaks, 40 if none.
+pub(crate) fn sparse_fault(
+    views: u32,
+    a: Accessor,
+    indices: BufferView,
+    values: BufferView,
+    l: Layout,
+) -> u32
+    requires { ⌜ a .«has_sparse» ≡ true ⌝ }
+    ensures { λ r. ⌜ r ≡ 34 + firstTrue (sparseTests views a indices values l) ⌝ }
+{
+    let s = a.sparse;
     let shaped = indices.has_byte_stride
         | indices.has_target
         | values.has_byte_stride
         | values.has_target;
-    let has = a.has_sparse;
-    let tests = [
-        has & ((s.count == 0) | (a.count < s.count)),
-        has & ((views <= s.indices_view) | (views <= s.values_view)),
-        has & shaped,
-        has & ((s.indices_type != 5121) & (s.indices_type != 5123) & (s.indices_type != 5125)),
-        has & (misplaced_values | misplaced_indices),
-        has & (past_indices | past_values),
-    ];
-    34 + finding::first_of(&tests)
+    if (s.count == 0) | (a.count < s.count) {
+        return 34;
+    }
+    if (views <= s.indices_view) | (views <= s.values_view) {
+        return 35;
+    }
+    if shaped {
+        return 36;
+    }
+    if (s.indices_type != 5121) & (s.indices_type != 5123) & (s.indices_type != 5125) {
+        return 37;
+    }
+    packed_fault(s, indices, values, l)
 }
 
 // The smallest of the rules 25 to 39 that the accessor breaks, 40 if none. `placed`: byteOffset is there.

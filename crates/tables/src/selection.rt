@@ -4,12 +4,14 @@ use crate::BufferView;
 use crate::Tables;
 use crate::accessor_at;
 use crate::accessors;
+use crate::accessors::Layout;
 use crate::view_at;
 use crate::views;
 ghost use mathlib.Core.Path.{_≡_};
-ghost use mathlib.Core.Bool.{_||_, _&&_};
+ghost use mathlib.Core.Bool.{true};
 ghost use Rattle.tables.specs.Fitness.{extentOf, selectionOf, viewSelectionOf};
-ghost use Rattle.tables.specs.Fitness.{extentUnfit, namedUnfit, accessorUnfit, viewUnfit};
+ghost use Rattle.tables.specs.Fitness.{extentUnfit, namedUnfit, accessorUnfit, fitOf, viewUnfit};
+ghost use Rattle.tables.specs.Stages.{ownLayout, ownUnfit, sparseUnfit};
 
 // The five counts and the buffer's place.
 #[repr(C)]
@@ -38,6 +40,15 @@ pub struct Selection {
 pub struct ViewSelection {
     pub extent: Extent,
     pub view: BufferView,
+}
+
+// Whether 63 is given, and for the reading where it is not: bytes of a component and of an element, effective stride.
+#[repr(C)]
+pub struct Fit {
+    pub unfit: bool,
+    pub component: u32,
+    pub element: u32,
+    pub stride: u32,
 }
 
 fn extent_of(t: Tables) -> Extent
@@ -103,33 +114,67 @@ fn named_unfit(x: Extent, v: BufferView) -> bool
     (v.buffer != 0) | (fault < 25)
 }
 
-// The two views of sparse, looked at only with sparse.
-fn sparse_unfit(x: Extent, has: bool, indices: BufferView, values: BufferView) -> bool
-    ensures { λ r. ⌜ r ≡ (has && (namedUnfit x indices || namedUnfit x values)) ⌝ }
+// Rules 34 to 39, and 21 to 24 of the two views of sparse.
+fn sparse_unfit(s: Selection) -> bool
+    requires { ⌜ s .accessor .«has_sparse» ≡ true ⌝ }
+    ensures { λ r. ⌜ r ≡ sparseUnfit s ⌝ }
 {
-    if has {
-        let first = named_unfit(x, indices);
-        let second = named_unfit(x, values);
-        return first | second;
+    let x = s.extent;
+    let a = s.accessor;
+    let indices = s.indices;
+    let values = s.values;
+    let l = accessors::layout_of(a, s.own);
+    let fault = accessors::sparse_fault(x.views, a, indices, values, l);
+    let first = named_unfit(x, indices);
+    let second = named_unfit(x, values);
+    (fault < 40) | (first | second)
+}
+
+// Rules 25 to 33, and 21 to 24 of the accessor's own view.
+fn own_unfit(x: Extent, a: Accessor, own: BufferView, l: Layout) -> bool
+    ensures { λ r. ⌜ r ≡ ownUnfit x a own l ⌝ }
+{
+    let placed = a.byte_offset != 0;
+    let fault = accessors::element_fault(x.views, placed, a, own, l);
+    if fault < 34 {
+        return true;
+    }
+    if a.has_buffer_view {
+        return named_unfit(x, own);
     }
     false
 }
 
-// Refusal 63 of a component reading, for so many lent bytes.
-pub fn accessor_unfit(bytes: usize, s: Selection) -> bool
+// Sparse first: what only it reads is then read only with it.
+fn unfit_with(bytes: usize, s: Selection, l: Layout) -> bool
+    requires { ⌜ l ≡ ownLayout (s .accessor) (s .own) ⌝ }
     ensures { λ r. ⌜ r ≡ accessorUnfit bytes s ⌝ }
 {
-    let x = s.extent;
-    let a = s.accessor;
-    let own = s.own;
-    let indices = s.indices;
-    let values = s.values;
-    let placed = a.byte_offset != 0;
-    let outer = extent_unfit(bytes, x);
-    let fault = accessors::accessor_fault(x.views, placed, a, own, indices, values);
-    let own_unfit = named_unfit(x, own);
-    let sparse = sparse_unfit(x, a.has_sparse, indices, values);
-    outer | (fault < 40) | (a.has_buffer_view & own_unfit) | sparse
+    if s.accessor.has_sparse {
+        let sparse = sparse_unfit(s);
+        if sparse {
+            return true;
+        }
+    }
+    let outer = extent_unfit(bytes, s.extent);
+    if outer {
+        return true;
+    }
+    own_unfit(s.extent, s.accessor, s.own, l)
+}
+
+// Refusal 63 of a component reading, for so many lent bytes, and how the elements lie.
+pub fn accessor_fit(bytes: usize, s: Selection) -> Fit
+    ensures { λ r. ⌜ r ≡ fitOf bytes s ⌝ }
+{
+    let l = accessors::own_layout(s.accessor, s.own);
+    let unfit = unfit_with(bytes, s, l);
+    Fit {
+        unfit,
+        component: l.component,
+        element: l.element,
+        stride: l.stride,
+    }
 }
 
 // Refusal 63 of a view lookup, for so many lent bytes.

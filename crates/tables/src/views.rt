@@ -12,13 +12,19 @@ pub(crate) fn view_fault(buffers: u32, buffer_length: u32, v: BufferView) -> u32
     let end = (v.byte_offset as u64) + (v.byte_length as u64);
     let stride = v.byte_stride;
     let target = v.target;
-    let tests = [
-        buffers <= v.buffer,
-        (v.byte_length == 0) | ((buffer_length as u64) < end),
-        v.has_byte_stride & ((stride % 4 != 0) | (stride < 4) | (252 < stride)),
-        v.has_target & (target != 34962) & (target != 34963),
-    ];
-    21 + finding::first_of(&tests)
+    if buffers <= v.buffer {
+        return 21;
+    }
+    if (v.byte_length == 0) | ((buffer_length as u64) < end) {
+        return 22;
+    }
+    if v.has_byte_stride & ((stride % 4 != 0) | (stride < 4) | (252 < stride)) {
+        return 23;
+    }
+    if v.has_target & (target != 34962) & (target != 34963) {
+        return 24;
+    }
+    25
 }
 
 // Rules 21 to 24 over the first count records, of at most 64.

@@ -8,12 +8,9 @@ use mir.ValLaws.{toZ-ofZ}
 use Rattle.tables.specs.Elements.{componentSize}
 use Rattle.tables.specs.Places.{valueAt}
 use Rattle.access.specs.Readings.{entryValue}
-use Rattle.access.proofs.Fits.{entry-sum, entry-fits}
+use Rattle.access.proofs.Fits.{entry-sum, component-size, entry-fits}
 use Rattle.access.proofs.values.entry_value.Statement.{statement}
 use Rattle.access.proofs.values.entry_value.Tie as tie
-
-element-bytes-requires : tie.Need-element-bytes-requires
-element-bytes-requires c κs = search needs
 
 component-place-requires : tie.Need-component-place-requires
 component-place-requires c κs = search needs
@@ -23,35 +20,40 @@ sum-requires c κs = search needs
 
 -- what the calls give is the place of the component, ..
 at : (c : tie.After-sum)
-    → let a = c .before .before .before .before .before .args in
-    c .sum .result + c .before .before .element-bytes .result * a .k + c .before .component-place .result
-    ≡ valueAt (a .s) (a .k) (a .component)
+    → let a = c .before .before .before .before .args in
+    c .sum .result + a .f .element * a .k + c .before .component-place .result ≡ valueAt (a .s) (a .k) (a .component)
 at c =
-    let a = c .before .before .before .before .before .args in
-    rw (c .sum .ensures, c .before .before .element-bytes .ensures, c .before .component-place .ensures)
-    (entry-sum (a .s) (a .k) (a .component))
+    let k = c .before .before .before .before in
+    let a = k .args in
+    rw (c .sum .ensures, c .before .component-place .ensures, k .pre .1 .0) (entry-sum (a .s) (a .k) (a .component))
+
+-- the size is that of a component
+size : (c : tie.After-sum)
+    → let a = c .before .before .before .before .args in
+    a .f .component ≡ componentSize (a .s .accessor .«component_type»)
+size c = let k = c .before .before .before .before in rw (k .pre .1 .0) (component-size (k .args .s))
 
 -- .. which lies within the file
 lies : (c : tie.After-sum)
-    → let a = c .before .before .before .before .before .args in
+    → let a = c .before .before .before .before .args in
     valueAt (a .s) (a .k) (a .component) + componentSize (a .s .accessor .«component_type») ≤ length (a .file .now)
 lies c =
-    let k = c .before .before .before .before .before in
+    let k = c .before .before .before .before in
     let a = k .args in
-    let p = k .pre in
-    entry-fits (length (a .file .now)) (a .s) (p .0) (p .1 .0) (a .k) (a .component) (p .1 .1 .0) (p .1 .1 .1)
+    let p = k .pre .1 .1 in
+    entry-fits (length (a .file .now)) (a .s) (k .pre .0) (p .0) (a .k) (a .component) (p .1 .0) (p .1 .1)
 
 place-requires : tie.Need-place-requires
-place-requires c κs = omega (arith, at c, lies c, c .before .before .before .before .before .good .0)
+place-requires c κs = omega (arith, at c, lies c, c .before .before .before .before .good .0)
 
 -- the place that is read
 spot : (c : tie.After-place)
-    → let a = c .before .before .before .before .before .before .args in
+    → let a = c .before .before .before .before .before .args in
     c .place .result ≡ valueAt (a .s) (a .k) (a .component)
 spot c = c .place .ensures ∙ at (c .before)
 
 number-at-requires : tie.Need-number-at-requires
-number-at-requires c κs = rw (spot c) (lies (c .before))
+number-at-requires c κs = let e = size (c .before) in (e, rw (spot c, e) (lies (c .before)))
 
 returns : tie.Need-returns
 unfolding entryValue
@@ -64,7 +66,6 @@ pub entry-value-spec : {M : Type 1} → statement M
 entry-value-spec =
     tie.close
     (tie.spec
-    element-bytes-requires
     component-place-requires
     sum-requires
     place-requires
