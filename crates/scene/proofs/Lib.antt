@@ -5,3 +5,4 @@ pub mod Orders
 pub mod Unfits
 pub mod Founds
 pub mod Exact
+pub mod Packed

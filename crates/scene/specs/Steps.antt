@@ -1,8 +1,9 @@
 -- What the steps of a walk ask and do. Assumes nothing: these are definitions.
 use Prim.Native.Nat.{ℕ, _+_, _<_, _≤_}
 use mathlib.Core.Path.{_≡_}
-use mathlib.Core.Bool.{cond}
+use mathlib.Core.Bool.{Bool, cond, _||_}
 use mathlib.Core.List.{List, [], _++_}
+use lib.Dec.{leb}
 use lib.ListN.{getD, length, take, drop}
 use Rattle.graph.specs.Packing.{packedLists, packedRefused}
 use Rattle.graph.specs.Order.{sceneOrder}
@@ -36,3 +37,11 @@ walkLists nodeStarts nodeLengths children nodes sceneStarts sceneLengths roots s
     (sceneOrder (packedLists nodeStarts nodeLengths children nodes) levels
     (getD (packedLists sceneStarts sceneLengths roots scenes) scene []))
     list)
+
+-- 64, then 66 where another count is over its capacity, then as above
+unfoldable pub walkPacked :
+    Bool → List ℕ → List ℕ → List ℕ → ℕ → List ℕ → List ℕ → List ℕ → ℕ → ℕ → List ℕ → Outcome
+walkPacked over nodeStarts nodeLengths children nodes sceneStarts sceneLengths roots scenes scene list =
+    cond (leb scenes scene || leb 8 scene) (refused 64 list)
+    (cond over (refused 66 list)
+    (walkLists nodeStarts nodeLengths children nodes sceneStarts sceneLengths roots scenes scene list))

@@ -1,5 +1,5 @@
 // The walk of a scene, numbers 64 to 66: the nodes at or under its roots, written into a lent list.
-use crate::lists::walk_lists;
+use crate::lists::walk_packed;
 use crate::places::node_places;
 use crate::places::scene_places;
 use tables::Tables;
@@ -24,18 +24,7 @@ pub fn walk(t: Tables, scene: u32, list: &mut [u16]) -> Walked
     ensures { λ r. ⌜ (r ≡ walkOf t scene (now (list .entry)) .walked)
         × (now (list .exit) ≡ walkOf t scene (now (list .entry)) .list) ⌝ }
 {
-    if (t.scenes <= scene) | (8 <= scene) {
-        return Walked {
-            number: 64,
-            count: 0,
-        };
-    }
-    if (1 < t.buffers) | (64 < t.views) | (128 < t.accessors) {
-        return Walked {
-            number: 66,
-            count: 0,
-        };
-    }
+    let over = (1 < t.buffers) | (64 < t.views) | (128 < t.accessors);
     let node_lists = t.node_lists;
     let nodes = node_places(node_lists);
     let node_starts = nodes.starts;
@@ -46,7 +35,8 @@ pub fn walk(t: Tables, scene: u32, list: &mut [u16]) -> Walked
     let scene_starts = scenes.starts;
     let scene_lengths = scenes.lengths;
     let roots = t.roots;
-    walk_lists(
+    walk_packed(
+        over,
         &node_starts,
         &node_lengths,
         &children,

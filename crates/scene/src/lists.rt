@@ -1,13 +1,13 @@
-// The walk on packed lists: 66, then 65.
+// The walk on packed lists: 64, then 66, then 65.
 use crate::Walked;
 use crate::roots::walk_roots;
 use graph::packed::is_refused;
 ghost use mathlib.Core.Path.{_≡_};
 ghost use Prim.Native.Nat.{_<_};
-ghost use Rattle.scene.specs.Steps.{walkLists};
+ghost use Rattle.scene.specs.Steps.{walkLists, walkPacked};
 
 // The children lists of so many nodes, the root lists of so many scenes, and one of these scenes.
-pub(crate) fn walk_lists(
+fn walk_lists(
     node_starts: &[u16],
     node_lengths: &[u16],
     children: &[u16],
@@ -53,6 +53,55 @@ pub(crate) fn walk_lists(
         children,
         128,
         &roots[start..end],
+        list,
+    )
+}
+
+// The same for any scene number. `over`: one of the counts that are not asked here passes its capacity.
+pub fn walk_packed(
+    over: bool,
+    node_starts: &[u16],
+    node_lengths: &[u16],
+    children: &[u16],
+    nodes: usize,
+    scene_starts: &[u16],
+    scene_lengths: &[u16],
+    roots: &[u16],
+    scenes: usize,
+    scene: usize,
+    list: &mut [u16],
+) -> Walked
+    ensures { λ r. ⌜ (r ≡ walkPacked over
+        (now («node_starts» .entry)) (now («node_lengths» .entry)) (now (children .entry)) nodes
+        (now («scene_starts» .entry)) (now («scene_lengths» .entry)) (now (roots .entry)) scenes
+        scene (now (list .entry)) .walked)
+        × (now (list .exit) ≡ walkPacked over
+        (now («node_starts» .entry)) (now («node_lengths» .entry)) (now (children .entry)) nodes
+        (now («scene_starts» .entry)) (now («scene_lengths» .entry)) (now (roots .entry)) scenes
+        scene (now (list .entry)) .list) ⌝ }
+{
+    if (scenes <= scene) | (8 <= scene) {
+        return Walked {
+            number: 64,
+            count: 0,
+        };
+    }
+    if over {
+        return Walked {
+            number: 66,
+            count: 0,
+        };
+    }
+    walk_lists(
+        node_starts,
+        node_lengths,
+        children,
+        nodes,
+        scene_starts,
+        scene_lengths,
+        roots,
+        scenes,
+        scene,
         list,
     )
 }

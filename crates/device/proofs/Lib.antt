@@ -1,0 +1,9 @@
+pub mod Entries
+pub mod Concerned
+pub mod Walks
+pub mod Rows
+pub mod Widths
+pub mod Sections
+pub mod Back
+pub mod Exact
+pub mod Bounds
