@@ -6,13 +6,13 @@ use mathlib.Core.Bool.{Bool, true, false, _&&_, and-true, and-assoc}
 use mathlib.Core.List.{List, [], _∷_}
 use mathlib.Core.Option.{Option, some, none}
 use lib.ListN.{length, length-map}
-use Rattle.json.specs.declared.nav.scalars.Integer.{Integer}
-use Rattle.json.specs.declared.nav.scalars.Integer.the-variants.{Is, Not}
+use Rattle.nav.specs.declared.scalars.Integer.{Integer}
+use Rattle.nav.specs.declared.scalars.Integer.the-variants.{Is, Not}
 use Rattle.json.specs.Tree.{Json, Values}
-use Rattle.json.specs.Places.{given}
-use Rattle.json.specs.Kinds.{treeKind}
-use Rattle.json.specs.Integers.{integerOf}
-use Rattle.json.specs.Members.{fieldOf}
+use Rattle.nav.specs.Places.{given}
+use Rattle.nav.specs.Kinds.{treeKind}
+use Rattle.nav.specs.Integers.{integerOf}
+use Rattle.nav.specs.Members.{fieldOf}
 use Rattle.document.specs.Names.{'scene'}
 use Rattle.document.specs.Names.{'buffers', 'bufferViews', 'accessors', 'nodes', 'scenes', 'children'}
 use Rattle.document.specs.Members.{isInteger, isBoolean, isOne, numberOf, integerMember, booleanMember, typeMember}

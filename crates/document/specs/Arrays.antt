@@ -5,8 +5,8 @@ use mathlib.Core.List.{List, [], _∷_, _++_}
 use mathlib.Core.Option.{Option, some, none}
 use lib.ListN.{take, replicate}
 use Rattle.json.specs.Tree.{Json, Values}
-use Rattle.json.specs.Places.{Stands}
-use Rattle.json.specs.Members.{PastTo}
+use Rattle.nav.specs.Places.{Stands}
+use Rattle.nav.specs.Members.{PastTo}
 
 -- the elements of an array, in order
 abbrev pub elements : Values → List Json

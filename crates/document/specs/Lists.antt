@@ -4,11 +4,11 @@ use Prim.Native.Nat.{ℕ}
 use mathlib.Core.Bool.{Bool, true, false, _&&_}
 use mathlib.Core.List.{List, [], _∷_, map}
 use mathlib.Core.Option.{Option, some, none}
-use Rattle.json.specs.declared.nav.scalars.Integer.{Integer}
-use Rattle.json.specs.declared.nav.scalars.Integer.the-variants.{Is, Not}
+use Rattle.nav.specs.declared.scalars.Integer.{Integer}
+use Rattle.nav.specs.declared.scalars.Integer.the-variants.{Is, Not}
 use Rattle.json.specs.Tree.{Json, Values}
-use Rattle.json.specs.Integers.{integerOf}
-use Rattle.json.specs.Members.{fieldOf}
+use Rattle.nav.specs.Integers.{integerOf}
+use Rattle.nav.specs.Members.{fieldOf}
 use Rattle.document.specs.Names.{'children', 'nodes'}
 use Rattle.document.specs.Members.{isObject}
 use Rattle.document.specs.Arrays.{every}

@@ -5,11 +5,11 @@ use mathlib.Core.Path.{_≡_}
 use mathlib.Core.List.{List}
 use mathlib.Core.Option.{Option}
 use lib.ListN.{length, drop}
-use Rattle.json.specs.declared.nav.Step.{Step}
-use Rattle.json.specs.declared.nav.Step.the-variants.{More, End, Bad}
+use Rattle.nav.specs.declared.Step.{Step}
+use Rattle.nav.specs.declared.Step.the-variants.{More, End, Bad}
 use Rattle.json.specs.Tree.{Json, Values}
-use Rattle.json.specs.Places.{Stands, Walk}
-use Rattle.json.specs.Members.{fieldOf, FoundTree, PastTo}
+use Rattle.nav.specs.Places.{Stands, Walk}
+use Rattle.nav.specs.Members.{fieldOf, FoundTree, PastTo}
 use Rattle.document.specs.declared.nodes.steps.Entered.{Entered}
 use Rattle.document.specs.declared.nodes.steps.Named.{Named}
 use Rattle.document.specs.Lists.{valuesIn, filled}

@@ -31,5 +31,5 @@ pub fn read(chunk: &[u8]) -> Document
     if fault.number != 0 {
         return refuse(fault.number, fault.place);
     }
-    top(chunk, json::nav::start(chunk))
+    top(chunk, nav::start(chunk))
 }

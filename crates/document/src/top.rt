@@ -4,7 +4,7 @@ ghost use mathlib.Core.List.{[], _∷_};
 ghost use Prim.Native.Nat.{_≤_};
 ghost use lib.ListN.{drop};
 ghost use Rattle.json.specs.Tree.{Json};
-ghost use Rattle.json.specs.Places.{Stands};
+ghost use Rattle.nav.specs.Places.{Stands};
 ghost use Rattle.document.specs.Rules.{ruleBy};
 ghost use Rattle.document.specs.Said.{tablesFrom, refused, documentIn};
 use crate::Document;
@@ -25,7 +25,7 @@ use crate::records::buffers::buffers;
 use crate::records::views::ViewsRead;
 use crate::records::views::views;
 use graph::verdict::Fault;
-use json::nav::members::gather;
+use nav::members::gather;
 use tables::Tables;
 
 // The first of rules 14 to 18 that is broken, 0 if none.

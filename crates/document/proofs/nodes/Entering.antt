@@ -7,14 +7,14 @@ use mathlib.Core.Bool.{true, false}
 use mathlib.Core.List.{List}
 use mathlib.Core.Option.{Option, some}
 use lib.ListN.{drop}
-use Rattle.json.specs.declared.nav.Step.{Step}
-use Rattle.json.specs.declared.nav.Step.the-variants.{More, Bad}
+use Rattle.nav.specs.declared.Step.{Step}
+use Rattle.nav.specs.declared.Step.the-variants.{More, Bad}
 use Rattle.json.specs.Tree.{Json, Values}
 use Rattle.json.specs.Grammar.{Elements}
 use Rattle.json.specs.Grammar.Elements.{elem-last, elem-more}
-use Rattle.json.specs.Places.{Stands, Walk}
-use Rattle.json.specs.Steps.{openOf}
-use Rattle.json.proofs.nav.Navigation.{at-some, at-none, entered, open-later}
+use Rattle.nav.specs.Places.{Stands, Walk}
+use Rattle.nav.specs.Steps.{openOf}
+use Rattle.nav.proofs.Navigation.{at-some, at-none, entered, open-later}
 use Rattle.document.specs.Lists.{valuesOf, valuesIn, hasSome, filled}
 use Rattle.document.specs.Walks.{Ahead, EntersTo}
 use Rattle.document.specs.Walks.Ahead.{ahead-more, ahead-bad}

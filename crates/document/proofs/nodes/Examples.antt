@@ -5,9 +5,9 @@ use mathlib.Core.Bool.{true, false}
 use mathlib.Core.List.{List, [], _∷_}
 use mathlib.Core.Option.{Option, some, none}
 use Rattle.json.specs.Tree.{Json, Values, Fields}
-use Rattle.json.specs.Words.{spells, plains}
-use Rattle.json.specs.Integers.{decimal, spelled, integerOf}
-use Rattle.json.specs.Members.{lookup, fieldOf}
+use Rattle.nav.specs.Words.{spells, plains}
+use Rattle.nav.specs.Integers.{decimal, spelled, integerOf}
+use Rattle.nav.specs.Members.{lookup, fieldOf}
 use Rattle.document.specs.Members.{isObject}
 use Rattle.document.specs.Lists.{valuesOf, entryOf, integersGood, integersOf, listsGood, listsOf}
 use Rattle.document.specs.Lists.{nodesGood, nodesOf}

@@ -9,15 +9,15 @@ use mathlib.Core.Option.{Option}
 use lib.Dec.{eqb}
 use lib.ListN.{length, drop}
 use borrow.Author.Tests.{ne-eqb}
-use Rattle.json.specs.declared.nav.Step.{Step}
-use Rattle.json.specs.declared.nav.Step.the-variants.{More, End, Bad}
+use Rattle.nav.specs.declared.Step.{Step}
+use Rattle.nav.specs.declared.Step.the-variants.{More, End, Bad}
 use Rattle.json.specs.Tree.{Json, Values}
 use Rattle.json.specs.Faults.Stop.{stop-object}
-use Rattle.json.specs.Places.{Stands, Walk}
-use Rattle.json.specs.Steps.{nextOf}
-use Rattle.json.specs.Members.{FoundTree, PastTo}
-use Rattle.json.specs.Members.PastTo.{past-at, past-none}
-use Rattle.json.proofs.nav.Navigation.{went, closed, never, next-later, stands-unique}
+use Rattle.nav.specs.Places.{Stands, Walk}
+use Rattle.nav.specs.Steps.{nextOf}
+use Rattle.nav.specs.Members.{FoundTree, PastTo}
+use Rattle.nav.specs.Members.PastTo.{past-at, past-none}
+use Rattle.nav.proofs.Navigation.{went, closed, never, next-later, stands-unique}
 use Rattle.document.specs.declared.nodes.steps.Entered.{Entered}
 use Rattle.document.specs.Members.{isObject}
 use Rattle.document.specs.Lists.{valuesIn}

@@ -8,7 +8,7 @@ use mathlib.Core.List.{List}
 use mathlib.Core.Option.{Option}
 use lib.ListN.{length}
 use Rattle.json.specs.Tree.{Json, Values}
-use Rattle.json.specs.Members.{fieldOf}
+use Rattle.nav.specs.Members.{fieldOf}
 use Rattle.graph.specs.Stream.{feed, feedAll}
 use Rattle.document.specs.declared.nodes.steps.Entry.{Entry}
 use Rattle.document.specs.Lists.{valuesIn, entryOf, integersOf, listsOf}

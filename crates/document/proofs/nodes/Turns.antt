@@ -10,8 +10,8 @@ use mathlib.Core.Option.{Option}
 use lib.ListN.{length, set, length-map, drop}
 use lib.Seq.{sets, length-sets}
 use Rattle.json.specs.Tree.{Json, Values}
-use Rattle.json.specs.Places.{Stands}
-use Rattle.json.specs.Members.{fieldOf, FoundTree}
+use Rattle.nav.specs.Places.{Stands}
+use Rattle.nav.specs.Members.{fieldOf, FoundTree}
 use Rattle.graph.specs.Graph.{joined}
 use Rattle.graph.specs.Packing.{startsFrom, lengthsOf}
 use Rattle.document.specs.declared.nodes.steps.Entry.{Entry}

@@ -2,10 +2,10 @@
 ghost use mathlib.Core.Path.{_≡_};
 ghost use mathlib.Core.Option.{Option};
 ghost use Rattle.json.specs.Tree.{Json};
-ghost use Rattle.json.specs.Members.{FoundTree};
+ghost use Rattle.nav.specs.Members.{FoundTree};
 ghost use Rattle.document.specs.Sparse.{indicesMember, valuesMember, sparseMember};
 use crate::members;
-use json::nav::members::gather;
+use nav::members::gather;
 use tables::Sparse;
 
 // The member indices: rule 16 holds of it, and its numbers.

@@ -5,14 +5,13 @@ ghost use Prim.Native.Nat.{_≤_};
 ghost use lib.ListN.{length, drop};
 ghost use mathlib.Core.List.{[]};
 ghost use Rattle.json.specs.Tree.{Json, Values};
-ghost use Rattle.json.specs.Places.{Walk};
-ghost use Rattle.json.specs.Members.{FoundTree};
+ghost use Rattle.nav.specs.Places.{Walk};
+ghost use Rattle.nav.specs.Members.{FoundTree};
 ghost use Rattle.document.specs.Arrays.{ObjectAt, elements, every};
 ghost use Rattle.document.specs.Views.{isView, viewOf, viewsIn, viewsOf};
 use crate::members;
-use json::nav;
-use json::nav::Step;
-use json::nav::members::gather;
+use nav::Step;
+use nav::members::gather;
 use tables::BufferView;
 
 // One element: rule 16 holds of it, its record, and the place past it, 0 where it is no object.

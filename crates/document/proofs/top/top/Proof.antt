@@ -4,8 +4,8 @@ use mathlib.Core.Bool.{Bool, not}
 use lib.Dec.{eqb}
 use lib.ListN.{drop}
 use Rattle.json.specs.Tree.{Json}
-use Rattle.json.specs.Places.{Stands}
-use Rattle.json.proofs.nav.Navigation.{gather-tree}
+use Rattle.nav.specs.Places.{Stands}
+use Rattle.nav.proofs.Navigation.{gather-tree}
 use Rattle.document.proofs.Objects.{has-place}
 use Rattle.document.proofs.Parts.{Few, few, nodes-count, scenes-count, Parts, refused-read, said-read}
 use borrow.Author.Needs.{needs}

@@ -5,10 +5,10 @@ use mathlib.Core.Path.{_≡_, refl, _∙_}
 use mathlib.Core.Logic.{⊎-elim}
 use mathlib.Core.Option.{Option}
 use lib.ListN.{length}
-use Rattle.json.specs.declared.nav.Step.the-variants.{More}
+use Rattle.nav.specs.declared.Step.the-variants.{More}
 use Rattle.json.specs.Tree.{Json}
-use Rattle.json.specs.Members.{FoundTree}
-use Rattle.json.proofs.nav.Navigation.{next-later}
+use Rattle.nav.specs.Members.{FoundTree}
+use Rattle.nav.proofs.Navigation.{next-later}
 use Rattle.document.proofs.nodes.Going.{Going, begins, goes, ends, left, falls}
 use Rattle.document.proofs.nodes.Turns.{Listing, list-first, list-next, list-last}
 use borrow.Author.Needs.{needs}

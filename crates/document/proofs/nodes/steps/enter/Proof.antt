@@ -1,5 +1,5 @@
 -- `document::nodes::steps::enter` meets its contract. Assumes nothing.
-use Rattle.json.proofs.nav.Navigation.{vacant, barred}
+use Rattle.nav.proofs.Navigation.{vacant, barred}
 use Rattle.document.proofs.nodes.Entering.{enters-absent, enters-more, enters-none, empty-array, no-array}
 use borrow.Author.Needs.{needs}
 use Rattle.document.proofs.nodes.steps.enter.Statement.{statement}

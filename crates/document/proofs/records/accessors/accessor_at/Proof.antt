@@ -1,7 +1,7 @@
 -- `document::records::accessors::accessor_at` meets its contract.
 -- Assumes nothing.
 use mathlib.Core.Path.{refl, ap}
-use Rattle.json.proofs.nav.Navigation.{gather-says, gather-tree}
+use Rattle.nav.proofs.Navigation.{gather-says, gather-tree}
 use Rattle.document.specs.declared.members.Number.{Number}
 use Rattle.document.proofs.Objects.{object-past}
 use Rattle.document.specs.Accessors.{isAccessor, accessorOf}

@@ -1,7 +1,7 @@
 -- `document::records::views::view_at` meets its contract.
 -- Assumes nothing.
 use mathlib.Core.Path.{refl}
-use Rattle.json.proofs.nav.Navigation.{gather-says, gather-tree}
+use Rattle.nav.proofs.Navigation.{gather-says, gather-tree}
 use Rattle.document.proofs.Objects.{object-past}
 use Rattle.document.specs.Views.{isView, viewOf}
 use borrow.Author.Needs.{needs}
