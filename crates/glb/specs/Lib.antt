@@ -1,0 +1,4 @@
+pub mod Check
+pub mod Meaning
+pub mod Exact
+pub mod Readings
