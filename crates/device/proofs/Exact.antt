@@ -13,9 +13,11 @@ use Rattle.tables.specs.Fitness.{viewSelectionOf}
 use Rattle.tables.proofs.Inside.{view-in-file}
 use Rattle.access.specs.Views.{viewNumberOf, viewOf, viewStart}
 use Rattle.access.proofs.Fits.{answered-fits}
+use Rattle.scene.specs.Walk.{walkOf}
 use Rattle.device.specs.Words.{tablesOf, headWords, wordsOf}
 use Rattle.device.specs.Places.{placeOf}
-use Rattle.device.specs.Meaning.{Stored}
+use Rattle.device.specs.Meaning.{Stored, wholeWalk}
+use Rattle.device.proofs.Walks.{walk-few, walk-whole}
 use Rattle.device.proofs.Widths.{head-width}
 use Rattle.device.proofs.Sections.{views-length, accessors-length, nodes-length, scenes-length}
 use Rattle.device.proofs.Back.{flag-back, head-word, views-back, accessors-back, nodes-back, children-back, scenes-back, roots-back}
@@ -49,6 +51,14 @@ unfolding wordsOf
 words-many t sized =
     simp length-append
     (omega (arith, head-width t, views-length t sized, accessors-length t sized, nodes-length t sized, scenes-length t sized, sized .children .many, sized .roots .many))
+
+-- that a list word over 65,535 reads as 65,535 changes no walk
+pub walk-exact : (ws : List ℕ) (scene : ℕ) (list : List ℕ) → walkOf (tablesOf ws) scene list ≡ wholeWalk ws scene list
+walk-exact ws scene list = walk-whole ws scene list
+
+-- a walk counts no more than 128 nodes
+pub walk-most : (ws : List ℕ) (scene : ℕ) (list : List ℕ) → walkOf (tablesOf ws) scene list .walked .count ≤ 128
+walk-most ws scene list = walk-few ws scene list
 
 -- a view answered lies in the file
 pub place-inside : (file : List ℕ) (t : Tables) (i : ℕ)

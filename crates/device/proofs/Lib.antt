@@ -1,5 +1,6 @@
 pub mod Entries
 pub mod Concerned
+pub mod Cuts
 pub mod Walks
 pub mod Rows
 pub mod Widths

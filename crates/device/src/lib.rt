@@ -1,15 +1,31 @@
-// The C interface: readings over tables that are 4,000 words. glb.h has the layout and says what is lent.
+// The C interface: check, and readings over tables that are 4,000 words. glb.h has the layout and says what is lent.
 ghost use mathlib.Core.Path.{_≡_};
 ghost use Rattle.access.specs.Readings.{componentOf};
 ghost use Rattle.access.specs.Views.{viewNumberOf};
 ghost use Rattle.scene.specs.Walk.{walkOf};
 ghost use Rattle.device.specs.Places.{placeOf};
-ghost use Rattle.device.specs.Words.{tablesOf};
+ghost use Rattle.glb.specs.Check.{checkOf};
+ghost use Rattle.device.specs.Words.{tablesOf, wordsOf};
 
 mod lists;
 pub mod put;
 mod readings;
 mod records;
+
+// The verdict on a file, the item, and the tables as words; refused, they are 0 but for the item.
+#[no_mangle]
+pub extern "C" fn glb_check(file: &[u8], words: &mut [u32; 4000], item: &mut u32) -> u32
+    ensures { λ r. ⌜ (r ≡ checkOf (now (file .entry)) .verdict)
+        × (now (words .exit) ≡ wordsOf (checkOf (now (file .entry)) .tables))
+        × (tablesOf (now (words .exit)) ≡ checkOf (now (file .entry)) .tables)
+        × (now (item .exit) ≡ checkOf (now (file .entry)) .item) ⌝ }
+{
+    let c = glb::check(file);
+    let t = c.tables;
+    put::put_tables(words, t);
+    *item = c.item;
+    c.verdict
+}
 
 // One component of an accessor: 60, 63, 61, 62, or 0. Refused, the value is 0.
 #[no_mangle]

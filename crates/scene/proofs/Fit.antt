@@ -61,7 +61,7 @@ long capacity st ln packed (suc n) p =
     (omega (arith, r .started), omega (arith, r .measured))
 
 -- entry j of list i
-entry : (st ln packed : List ℕ) (i j : ℕ) → PlacedAt st ln packed i → j < getD ln i 0
+pub entry : (st ln packed : List ℕ) (i j : ℕ) → PlacedAt st ln packed i → j < getD ln i 0
     → In (getD packed (getD st i 0 + j) 0) (listAt st ln packed i)
 entry st ln packed i j p l =
     let front = drop (getD st i 0) packed in
@@ -93,7 +93,7 @@ module _ (nS nL ch : List ℕ) (n : ℕ) (sS sL ro : List ℕ) (s : ℕ) (ok : F
       rw part-length
       (packed-same (take n nS) nS (take n nL) nL ch n (λ i l. getD-take n nS i 0 l) (λ i l. getD-take n nL i 0 l))
 
-  child-low : (x j : ℕ) → x < n → j < getD nL x 0 → getD ch (getD nS x 0 + j) 0 < n
+  pub child-low : (x j : ℕ) → x < n → j < getD nL x 0 → getD ch (getD nS x 0 + j) 0 < n
   child-low x j l h =
       let i = entry nS nL ch x j (ok .nodes .lists x l) h in
       let y = getD ch (getD nS x 0 + j) 0 in
