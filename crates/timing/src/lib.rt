@@ -6,6 +6,8 @@ use tables::selection::Selection;
 ghost use mathlib.Core.Path.{_≡_};
 ghost use Rattle.text.specs.Rules.{textOf};
 ghost use Rattle.container.specs.Rules.{containerOf};
+ghost use Rattle.document.specs.Said.{documentOf};
+ghost use Rattle.glb.specs.Check.{checkOf};
 ghost use Rattle.access.specs.Readings.{componentIn, componentOf};
 ghost use Rattle.scene.specs.Walk.{walkOf};
 
@@ -25,6 +27,24 @@ pub extern "C" fn time_text(chunk: &[u8]) -> u32
 {
     let fault = text::check(chunk);
     fault.number
+}
+
+// Rules 9 to 18, with the tables: the number.
+#[no_mangle]
+pub extern "C" fn time_document(chunk: &[u8]) -> u32
+    ensures { λ r. ⌜ r ≡ documentOf (now (chunk .entry)) .number ⌝ }
+{
+    let d = document::read(chunk);
+    d.number
+}
+
+// Rules 1 to 47, with the tables: the verdict.
+#[no_mangle]
+pub extern "C" fn time_check(file: &[u8]) -> u32
+    ensures { λ r. ⌜ r ≡ checkOf (now (file .entry)) .verdict ⌝ }
+{
+    let c = glb::check(file);
+    c.verdict
 }
 
 // One component of an accessor that was selected before.
