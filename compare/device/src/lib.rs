@@ -4,9 +4,6 @@
 
 use reader::{Answers, Words};
 
-#[cfg(any(feature = "stub-check", feature = "stub-readings"))]
-use stub as _;
-
 extern "C" {
     fn glb_check(file: *const u8, length: usize, tables: *mut u32, item: *mut u32) -> u32;
     fn glb_component(
@@ -23,12 +20,7 @@ extern "C" {
 }
 
 /// What answers behind the interface, in words.
-pub const NAME: &str = match (cfg!(feature = "stub-check"), cfg!(feature = "stub-readings")) {
-    (false, false) => "the proved library",
-    (true, false) => "the proved library, its check by the STUB",
-    (false, true) => "the proved library, its readings by the STUB",
-    (true, true) => "the STUB, which is the independent reader itself: agreement says nothing",
-};
+pub const NAME: &str = "the proved library";
 
 /// The proved library.
 pub struct Device;
