@@ -10,23 +10,23 @@ use lib.ListN.{length, length-append}
 use lib.Seq.{sets-eq}
 use borrow.Author.Tests.{le-leb, lt-leb, eq-eqb, ne-eqb}
 use Rattle.lines.specs.Decimal.{decimalOf}
-use Rattle.lines.specs.Report.{'verdict', 'item', 'views', 'accessors', 'nodes', 'scenes', field, verdictLine, countsLine, reportOf, fits, countIn, writtenIn, Put}
+use Rattle.lines.specs.Report.{field, verdictLine, countsLine, reportOf, fits, countIn, writtenIn, Put}
 
 -- the length of a word and a number
 pub field-length : (word : List ℕ) (n : ℕ) → length (field word n) ≡ length word + length (decimalOf n)
 unfolding field
 field-length word n = length-append word (decimalOf n)
 
--- of the first line, by its pieces
-pub verdict-length : (v i : ℕ) → length (verdictLine v i) ≡ length (field 'verdict' v) + length (field 'item' i) + 1
+-- of the first line
+pub verdict-length : (v i : ℕ) → length (verdictLine v i) ≡ 15 + length (decimalOf v) + length (decimalOf i)
 unfolding verdictLine
-verdict-length v i = simp length-append
+verdict-length v i = simp (length-append, field-length) (omega arith)
 
 -- of the second
 pub counts-length : (v a n s : ℕ)
-    → length (countsLine v a n s) ≡ length (field 'views' v) + length (field 'accessors' a) + length (field 'nodes' n) + length (field 'scenes' s) + 1
+    → length (countsLine v a n s) ≡ 33 + length (decimalOf v) + length (decimalOf a) + length (decimalOf n) + length (decimalOf s)
 unfolding countsLine
-counts-length v a n s = simp length-append
+counts-length v a n s = simp (length-append, field-length) (omega arith)
 
 -- a refusal's report
 pub report-refused : (v i a b c d : ℕ) → (v ≡ 0 → ⊥) → reportOf v i a b c d ≡ verdictLine v i
@@ -41,8 +41,7 @@ report-accepted v i a b c d h = rw (eq-eqb v 0 h)
 -- its length
 pub length-refused : (v i a b c d : ℕ) → (v ≡ 0 → ⊥) → length (reportOf v i a b c d) ≡ 15 + length (decimalOf v) + length (decimalOf i)
 length-refused v i a b c d h =
-    rw (report-refused v i a b c d h)
-    (omega (arith, verdict-length v i, field-length 'verdict' v, field-length 'item' i))
+    rw (report-refused v i a b c d h) (verdict-length v i)
 
 -- an accepted file's
 pub length-accepted : (v i a b c d : ℕ) → v ≡ 0
@@ -50,18 +49,7 @@ pub length-accepted : (v i a b c d : ℕ) → v ≡ 0
     ≡ 48 + length (decimalOf v) + length (decimalOf i) + length (decimalOf a) + length (decimalOf b) + length (decimalOf c) + length (decimalOf d)
 length-accepted v i a b c d h =
     rw (report-accepted v i a b c d h)
-    (omega (
-      arith,
-      length-append (verdictLine v i) (countsLine a b c d),
-      verdict-length v i,
-      field-length 'verdict' v,
-      field-length 'item' i,
-      counts-length a b c d,
-      field-length 'views' a,
-      field-length 'accessors' b,
-      field-length 'nodes' c,
-      field-length 'scenes' d,
-    ))
+    (omega (arith, length-append (verdictLine v i) (countsLine a b c d), verdict-length v i, counts-length a b c d))
 
 -- the first line stands in every report
 pub verdict-within : (v i a b c d : ℕ) → length (verdictLine v i) ≤ length (reportOf v i a b c d)

@@ -6,7 +6,7 @@ use mathlib.Core.List.{List, [], _∷_, _++_}
 use lib.Dec.{ltb}
 use lib.ListN.{length, getD}
 
--- the digits of n in ASCII, most significant first, where k is above their number
+-- the digits of n in ASCII, most significant first, where k is not below their number
 unfoldable pub digitsOf : ℕ → ℕ → List ℕ
 digitsOf zero n = []
 digitsOf (suc k) n = cond (ltb n 10) ((0x30 + n) ∷ []) (digitsOf k (n / 10) ++ ((0x30 + n % 10) ∷ []))

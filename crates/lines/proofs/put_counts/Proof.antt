@@ -2,7 +2,7 @@
 use native.Mathlib.Omega.{arith}
 use Rattle.lines.specs.Report.{countsLine}
 use Rattle.lines.proofs.Stores.{put-two}
-use Rattle.lines.proofs.Texts.{counts-length}
+use Rattle.lines.proofs.Texts.{field-length, counts-length}
 use borrow.Author.Needs.{needs}
 use Rattle.lines.proofs.put_counts.Statement.{statement}
 use Rattle.lines.proofs.put_counts.Tie as tie
@@ -14,7 +14,7 @@ put-field-requires : tie.Need-put-field-requires
 put-field-requires c κs =
     let s = c .before .before .before in
     let a = s .args in
-    omega (arith, s .pre, counts-length (a .views) (a .accessors) (a .nodes) (a .scenes))
+    simp field-length (omega (arith, s .pre, counts-length (a .views) (a .accessors) (a .nodes) (a .scenes)))
 
 slice-aggregate-put-field-2 : tie.Need-slice-aggregate-put-field-2
 slice-aggregate-put-field-2 c = search needs
@@ -24,7 +24,7 @@ put-field-requires-2 c κs =
     let p1 = c .before .before .before .before .put-field in
     let s = c .before .before .before .before .before .before .before .before in
     let a = s .args in
-    omega (arith, s .pre, counts-length (a .views) (a .accessors) (a .nodes) (a .scenes), p1 .ensures .ends, p1 .kept .0)
+    simp field-length (omega (arith, s .pre, counts-length (a .views) (a .accessors) (a .nodes) (a .scenes), simp field-length at (p1 .ensures .ends), p1 .kept .0))
 
 slice-aggregate-put-field-3 : tie.Need-slice-aggregate-put-field-3
 slice-aggregate-put-field-3 c = search needs
@@ -35,7 +35,7 @@ put-field-requires-3 c κs =
     let p1 = c .before .before .before .before .before .before .before .before .before .put-field in
     let s = c .before .before .before .before .before .before .before .before .before .before .before .before .before in
     let a = s .args in
-    omega (arith, s .pre, counts-length (a .views) (a .accessors) (a .nodes) (a .scenes), p1 .ensures .ends, p1 .kept .0, p2 .ensures .ends, p2 .kept .0)
+    simp field-length (omega (arith, s .pre, counts-length (a .views) (a .accessors) (a .nodes) (a .scenes), simp field-length at (p1 .ensures .ends), p1 .kept .0, simp field-length at (p2 .ensures .ends), p2 .kept .0))
 
 slice-aggregate-put-field-4 : tie.Need-slice-aggregate-put-field-4
 slice-aggregate-put-field-4 c = search needs
@@ -47,7 +47,7 @@ put-field-requires-4 c κs =
     let p1 = c .before .before .before .before .before .before .before .before .before .before .before .before .before .before .put-field in
     let s = c .before .before .before .before .before .before .before .before .before .before .before .before .before .before .before .before .before .before in
     let a = s .args in
-    omega (arith, s .pre, counts-length (a .views) (a .accessors) (a .nodes) (a .scenes), p1 .ensures .ends, p1 .kept .0, p2 .ensures .ends, p2 .kept .0, p3 .ensures .ends, p3 .kept .0)
+    simp field-length (omega (arith, s .pre, counts-length (a .views) (a .accessors) (a .nodes) (a .scenes), simp field-length at (p1 .ensures .ends), p1 .kept .0, simp field-length at (p2 .ensures .ends), p2 .kept .0, simp field-length at (p3 .ensures .ends), p3 .kept .0))
 
 slice-aggregate-put : tie.Need-slice-aggregate-put
 slice-aggregate-put c = search needs
@@ -60,7 +60,7 @@ put-requires c κs =
     let p1 = c .before .before .before .before .before .before .before .before .before .before .before .before .before .before .before .before .before .before .before .put-field in
     let s = c .before .before .before .before .before .before .before .before .before .before .before .before .before .before .before .before .before .before .before .before .before .before .before in
     let a = s .args in
-    omega (arith, s .pre, counts-length (a .views) (a .accessors) (a .nodes) (a .scenes), p1 .ensures .ends, p1 .kept .0, p2 .ensures .ends, p2 .kept .0, p3 .ensures .ends, p3 .kept .0, p4 .ensures .ends, p4 .kept .0)
+    omega (arith, s .pre, counts-length (a .views) (a .accessors) (a .nodes) (a .scenes), simp field-length at (p1 .ensures .ends), p1 .kept .0, simp field-length at (p2 .ensures .ends), p2 .kept .0, simp field-length at (p3 .ensures .ends), p3 .kept .0, simp field-length at (p4 .ensures .ends), p4 .kept .0)
 
 same-length : tie.Need-same-length
 same-length c = search needs
