@@ -9,6 +9,8 @@
 
 uint32_t time_container(const uint8_t *file, size_t length);
 uint32_t time_text(const uint8_t *chunk, size_t length);
+uint32_t time_document(const uint8_t *chunk, size_t length);
+uint32_t time_check(const uint8_t *file, size_t length);
 
 // The records, as the library has them.
 typedef struct { uint32_t buffer, byte_offset, byte_length, byte_stride; bool has_byte_stride; uint32_t target; bool has_target; } BufferView;
@@ -75,6 +77,31 @@ static void word(uint8_t *s, uint32_t x) {
     for (int k = 0; k < 4; k++) s[k] = x >> (8 * k);
 }
 
+// A file with this JSON text and a BIN chunk of so many bytes, 0 for no BIN chunk; its length. Both are multiples of 4.
+static size_t container(uint8_t *file, const char *text, size_t json, size_t bin) {
+    size_t n = 20 + json + (bin ? 8 + bin : 0);
+    word(file, 0x46546C67), word(file + 4, 2), word(file + 8, n), word(file + 12, json), word(file + 16, 0x4E4F534A);
+    memcpy(file + 20, text, json);
+    if (bin) word(file + 20 + json, bin), word(file + 24 + json, 0x004E4942), memset(file + 28 + json, 0, bin);
+    return n;
+}
+
+// A model of 64 views, 128 accessors, 128 nodes in a chain, and other members to fill `size` bytes, a multiple of 4.
+static size_t hull(char *s, size_t size) {
+    size_t n = sprintf(s, "{\"asset\":{\"version\":\"2.0\"},\"buffers\":[{\"byteLength\":4096}],\"scenes\":[{\"nodes\":[0]}],\"scene\":0,\"bufferViews\":[");
+    for (int i = 0; i < 64; i++) n += sprintf(s + n, "%s{\"buffer\":0,\"byteOffset\":%d,\"byteLength\":64}", i ? "," : "", 64 * i);
+    n += sprintf(s + n, "],\"accessors\":[");
+    for (int i = 0; i < 128; i++)
+        n += sprintf(s + n, "%s{\"bufferView\":%d,\"componentType\":5126,\"count\":5,\"type\":\"VEC3\"}", i ? "," : "", i % 64);
+    n += sprintf(s + n, "],\"nodes\":[");
+    for (int i = 0; i < 128; i++) n += i < 127 ? sprintf(s + n, "{\"children\":[%d]},", i + 1) : sprintf(s + n, "{}]");
+    n += sprintf(s + n, ",\"extras\":[");
+    for (int i = 0; n + 80 < size; i++) n += sprintf(s + n, "%s{\"name\":\"station %d\",\"x\":%d.5}", i ? "," : "", i, i);
+    n += sprintf(s + n, "]}");
+    while (n < size) s[n++] = ' ';
+    return n;
+}
+
 static uint8_t model[60100];
 static Selection selection;
 static Tables tables;
@@ -125,6 +152,14 @@ static double best_component(int how, uint32_t count, int runs) {
     return least;
 }
 
+static uint8_t *checked;
+static size_t checked_length;
+
+static void *check_on(void *room) {
+    if (room) *(uint32_t *)room = time_check(checked, checked_length);
+    return NULL;
+}
+
 static void *walk_on(void *room) {
     uint16_t list[128];
     if (room) *(Walked *)room = time_walk(tables, 0, list, 128);
@@ -132,7 +167,7 @@ static void *walk_on(void *room) {
 }
 
 // The bytes of a painted stack that a thread touched.
-static size_t stack_used(void *room) {
+static size_t stack_used(void *(*run)(void *), void *room) {
     size_t size = 1 << 20;
     uint8_t *stack = aligned_alloc(4096, size);
     memset(stack, 0xA5, size);
@@ -140,12 +175,36 @@ static size_t stack_used(void *room) {
     pthread_t thread;
     pthread_attr_init(&attr);
     pthread_attr_setstack(&attr, stack, size);
-    pthread_create(&thread, &attr, walk_on, room);
+    pthread_create(&thread, &attr, run, room);
     pthread_join(thread, NULL);
     size_t low = 0;
     while (low < size && stack[low] == 0xA5) low++;
     free(stack);
     return size - low;
+}
+
+static void check_line(const char *name, int runs) {
+    uint32_t r;
+    double took = best(time_check, checked, checked_length, runs, &r);
+    printf("check, %-14s %.2f us (verdict %u, %zu bytes)\n", name, took / 1e3, r, checked_length);
+}
+
+// Check of a file of 48 bytes, of 16 and 64 KB of JSON, and of 16 MiB.
+static void check_lines(char *s) {
+    checked = malloc(16777216);
+    checked_length = container(checked, "{\"asset\":{\"version\":\"2.0\"}} ", 28, 0);
+    check_line("48 bytes", 2000);
+    checked_length = container(checked, s, hull(s, 16384), 4096);
+    check_line("JSON 16 KB", 500);
+    checked_length = container(checked, s, hull(s, 65536), 4096);
+    check_line("JSON 64 KB", 300);
+    uint32_t verdict;
+    size_t idle = stack_used(check_on, NULL), check = stack_used(check_on, &verdict);
+    printf("stack of that check   %zu bytes (verdict %u)\n", check - idle, verdict);
+    const char *text = "{\"asset\":{\"version\":\"2.0\"},\"buffers\":[{\"byteLength\":16777124}]} ";
+    checked_length = container(checked, text, 64, 16777124);
+    check_line("16 MiB", 300);
+    free(checked);
 }
 
 int main(void) {
@@ -156,8 +215,11 @@ int main(void) {
     double text = best(time_text, (uint8_t *)s, n, 500, &r) / n;
     printf("plain loop            %.2f ns a byte (sum %u)\n", floor, q);
     printf("rules 9 to 13         %.2f ns a byte, %.1f times the plain loop (number %u, %zu bytes)\n", text, text / floor, r, n);
+    double document = best(time_document, (uint8_t *)s, n, 300, &r) / n;
+    printf("rules 9 to 18         %.2f ns a byte, %.2f of them for 14 to 18 and the records (number %u)\n", document, document - text, r);
     n = members(s, 900);
-    printf("one object, 900 names %.3f ms (number %u, %d pairs)\n", best(time_text, (uint8_t *)s, n, 50, &r) / 1e6, r, 900 * 899 / 2);
+    double names = best(time_text, (uint8_t *)s, n, 50, &r);
+    printf("one object, 900 names %.3f ms (number %u, %d pairs)\n", names / 1e6, r, 900 * 899 / 2);
     size_t size = 16777216;
     uint8_t *file = calloc(size, 1);
     word(file, 0x46546C67), word(file + 4, 2), word(file + 8, size);
@@ -172,7 +234,7 @@ int main(void) {
     printf("component_in, dense   %.2f ns\n", best_component(1, 15000, 300));
     printf("component, by tables  %.0f ns\n", best_component(2, 1500, 100));
     Walked w;
-    size_t idle = stack_used(NULL), walk = stack_used(&w);
+    size_t idle = stack_used(walk_on, NULL), walk = stack_used(walk_on, &w);
     uint16_t list[128];
     double least = 1e30;
     for (int k = 0; k < 200; k++) {
@@ -181,5 +243,6 @@ int main(void) {
         if (now() - from < least) least = now() - from;
     }
     printf("walk, 128 in a chain  %.1f us (number %u, count %zu), %zu bytes of stack\n", least / 1e3, w.number, w.count, walk - idle);
+    check_lines(s);
     return sum == 42;
 }
