@@ -5,6 +5,9 @@ ghost use Prim.Native.Nat.{_≤_};
 ghost use lib.ListN.{drop};
 ghost use Rattle.json.specs.Tree.{Json};
 ghost use Rattle.nav.specs.Places.{Stands};
+ghost use Rattle.nav.specs.Members.{gatherOf};
+ghost use Rattle.document.specs.Names.{'asset', 'extensionsRequired', 'buffers', 'bufferViews'};
+ghost use Rattle.document.specs.Names.{'accessors', 'nodes', 'scenes', 'scene'};
 ghost use Rattle.document.specs.Rules.{ruleBy};
 ghost use Rattle.document.specs.Said.{tablesFrom, refused, documentIn};
 use crate::Document;
@@ -25,6 +28,7 @@ use crate::records::buffers::buffers;
 use crate::records::views::ViewsRead;
 use crate::records::views::views;
 use graph::verdict::Fault;
+use nav::members::Places;
 use nav::members::gather;
 use tables::Tables;
 
@@ -77,7 +81,6 @@ fn tables_of(
     requires { ⌜ scenes .count ≤ 8 ⌝ }
     ensures { λ r. ⌜ r ≡ tablesFrom buffers views accessors nodes scenes scene ⌝ }
 {
-    let buffer = buffers.records[0];
     let view_records = views.records;
     let accessor_records = accessors.records;
     let node_lists = nodes.lists;
@@ -91,7 +94,7 @@ fn tables_of(
         nodes: nodes.count as u32,
         scenes: scenes.count as u32,
         buffer_start: 0,
-        buffer_length: buffer.byte_length,
+        buffer_length: buffers.records[0].byte_length,
         scene: scene.value,
         has_scene: scene.has,
         view_records,
@@ -103,11 +106,12 @@ fn tables_of(
     }
 }
 
-// The object at `at`.
-pub(crate) fn top(s: &[u8], at: usize) -> Document
-    ensures { λ r. ⌜ ((j : Json) → Stands (drop at (now (s .entry))) j → r ≡ documentIn j) ⌝ }
+// The places of the members of the top.
+fn top_places(s: &[u8], at: usize) -> Places
+    ensures { λ r. ⌜ r ≡ gatherOf (now (s .entry)) (drop at (now (s .entry)))
+        'asset' 'extensionsRequired' 'buffers' 'bufferViews' 'accessors' 'nodes' 'scenes' 'scene' ⌝ }
 {
-    let places = gather(
+    gather(
         s,
         at,
         b"asset",
@@ -118,7 +122,14 @@ pub(crate) fn top(s: &[u8], at: usize) -> Document
         b"nodes",
         b"scenes",
         b"scene",
-    );
+    )
+}
+
+// The object at `at`.
+pub(crate) fn top(s: &[u8], at: usize) -> Document
+    ensures { λ r. ⌜ ((j : Json) → Stands (drop at (now (s .entry))) j → r ≡ documentIn j) ⌝ }
+{
+    let places = top_places(s, at);
     let asset = is_asset(s, places.a);
     let buffers = buffers(s, places.c);
     let views = views(s, places.d);
