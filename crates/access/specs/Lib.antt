@@ -1,4 +1,5 @@
 pub mod Numbers
 pub mod Readings
+pub mod Stages
 pub mod Views
 pub mod Meaning

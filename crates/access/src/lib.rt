@@ -2,11 +2,16 @@
 use tables::Tables;
 use tables::layout;
 use tables::selection;
+use tables::selection::Fit;
 use tables::selection::Selection;
 use tables::selection::ViewSelection;
 ghost use mathlib.Core.Path.{_≡_};
-ghost use Rattle.tables.specs.Fitness.{selectionOf};
+ghost use mathlib.Core.Bool.{true, false};
+ghost use lib.ListN.{length};
+ghost use Rattle.tables.specs.Fitness.{selectionOf, accessorUnfit};
+ghost use Rattle.tables.specs.Stages.{ownFit};
 ghost use Rattle.access.specs.Readings.{componentIn, componentOf};
+ghost use Rattle.access.specs.Stages.{ownReading};
 ghost use Rattle.access.specs.Views.{viewNumberIn, viewNumberOf, viewPlaceOf, viewOf, StartsAt};
 
 mod numbers;
@@ -39,14 +44,12 @@ pub fn select(t: Tables, accessor: u32) -> Selection
     selection::select(t, accessor)
 }
 
-// The component of the accessor selected: 63, 61, 62. The selection is trusted no more than tables.
-pub fn component_in(file: &[u8], s: Selection, element: u32, component: u32) -> Reading
-    ensures { λ r. ⌜ r ≡ componentIn (now (file .entry)) s element component ⌝ }
+// 61, 62, or the component in the accessor's own view, where 63 is not given.
+fn own_in(file: &[u8], s: Selection, f: Fit, element: u32, component: u32) -> Reading
+    requires { ⌜ accessorUnfit (length (now file)) s ≡ false ⌝ }
+    requires { ⌜ f ≡ ownFit (length (now file)) s ⌝ }
+    ensures { λ r. ⌜ r ≡ ownReading (now (file .entry)) s element component ⌝ }
 {
-    let fit = selection::accessor_fit(file.len(), s);
-    if fit.unfit {
-        return refused(63);
-    }
     if s.accessor.count <= element {
         return refused(61);
     }
@@ -54,8 +57,45 @@ pub fn component_in(file: &[u8], s: Selection, element: u32, component: u32) -> 
     if components <= component {
         return refused(62);
     }
-    let value = values::value_in(file, s, fit, element, component);
+    let value = values::own_value(file, s, f, element, component);
     Reading { number: 0, value }
+}
+
+// The reading of an accessor with sparse, where 63 is not given by all else.
+fn sparse_in(file: &[u8], s: Selection, f: Fit, element: u32, component: u32) -> Reading
+    requires { ⌜ f ≡ ownFit (length (now file)) s ⌝ }
+    requires { ⌜ ownFit (length (now file)) s .unfit ≡ false ⌝ }
+    requires { ⌜ s .accessor .«has_sparse» ≡ true ⌝ }
+    ensures { λ r. ⌜ r ≡ componentIn (now (file .entry)) s element component ⌝ }
+{
+    let unfit = selection::sparse_unfit(s);
+    if unfit {
+        return refused(63);
+    }
+    let own = own_in(file, s, f, element, component);
+    if own.number != 0 {
+        return own;
+    }
+    let k = values::entry_for(file, s, element);
+    if k < s.accessor.sparse.count {
+        let value = values::entry_value(file, s, f, k, component);
+        return Reading { number: 0, value };
+    }
+    own
+}
+
+// The component of the accessor selected: 63, 61, 62. The selection is trusted no more than tables.
+pub fn component_in(file: &[u8], s: Selection, element: u32, component: u32) -> Reading
+    ensures { λ r. ⌜ r ≡ componentIn (now (file .entry)) s element component ⌝ }
+{
+    let fit = selection::own_fit(file.len(), s);
+    if fit.unfit {
+        return refused(63);
+    }
+    if s.accessor.has_sparse {
+        return sparse_in(file, s, fit, element, component);
+    }
+    own_in(file, s, fit, element, component)
 }
 
 // The component of an accessor of the tables: 60, then as above.

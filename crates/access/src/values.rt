@@ -1,4 +1,4 @@
-// The value of a component, where nothing is refused.
+// The values of a component, where nothing is refused: in a sparse entry, in the accessor's own view.
 use crate::numbers;
 use tables::layout;
 use tables::selection::Fit;
@@ -9,8 +9,9 @@ ghost use Prim.Native.Nat.{_+_, _*_, _^_, _<_, _≤_};
 ghost use lib.Dec.{eqb};
 ghost use lib.ListN.{length};
 ghost use Rattle.tables.specs.Elements.{isSize, componentCount};
-ghost use Rattle.tables.specs.Fitness.{accessorUnfit, fitOf};
-ghost use Rattle.access.specs.Readings.{sparseFind, entryFor, ownValue, entryValue, valueIn};
+ghost use Rattle.tables.specs.Fitness.{accessorUnfit};
+ghost use Rattle.tables.specs.Stages.{ownFit};
+ghost use Rattle.access.specs.Readings.{sparseFind, entryFor, ownValue, entryValue};
 
 fn sum(a: u32, b: u32, c: u32) -> u64
     ensures { λ r. ⌜ r ≡ a + b + c ⌝ }
@@ -44,7 +45,7 @@ fn sparse_find(file: &[u8], first: usize, size: u32, count: u32, element: u32) -
 }
 
 // The sparse entry for the element.
-fn entry_for(file: &[u8], s: Selection, element: u32) -> u32
+pub(crate) fn entry_for(file: &[u8], s: Selection, element: u32) -> u32
     requires { ⌜ accessorUnfit (length (now file)) s ≡ false ⌝ }
     requires { ⌜ s .accessor .«has_sparse» ≡ true ⌝ }
     ensures { λ r. ⌜ r ≡ entryFor (now (file .entry)) s element ⌝ }
@@ -60,9 +61,9 @@ fn entry_for(file: &[u8], s: Selection, element: u32) -> u32
 }
 
 // The component in values element k.
-fn entry_value(file: &[u8], s: Selection, f: Fit, k: u32, component: u32) -> i64
+pub(crate) fn entry_value(file: &[u8], s: Selection, f: Fit, k: u32, component: u32) -> i64
     requires { ⌜ accessorUnfit (length (now file)) s ≡ false ⌝ }
-    requires { ⌜ f ≡ fitOf (length (now file)) s ⌝ }
+    requires { ⌜ f ≡ ownFit (length (now file)) s ⌝ }
     requires { ⌜ s .accessor .«has_sparse» ≡ true ⌝ }
     requires { ⌜ (k < s .accessor .sparse .count) × (component < componentCount (s .accessor .«element_type»)) ⌝ }
     ensures { λ r. ⌜ r ≡ entryValue (now (file .entry)) s k component ⌝ }
@@ -79,9 +80,9 @@ fn entry_value(file: &[u8], s: Selection, f: Fit, k: u32, component: u32) -> i64
 }
 
 // The component in the accessor's own view, zero without one.
-fn own_value(file: &[u8], s: Selection, f: Fit, element: u32, component: u32) -> i64
+pub(crate) fn own_value(file: &[u8], s: Selection, f: Fit, element: u32, component: u32) -> i64
     requires { ⌜ accessorUnfit (length (now file)) s ≡ false ⌝ }
-    requires { ⌜ f ≡ fitOf (length (now file)) s ⌝ }
+    requires { ⌜ f ≡ ownFit (length (now file)) s ⌝ }
     requires { ⌜ (element < s .accessor .count) × (component < componentCount (s .accessor .«element_type»)) ⌝ }
     ensures { λ r. ⌜ r ≡ ownValue (now (file .entry)) s element component ⌝ }
 {
@@ -94,20 +95,4 @@ fn own_value(file: &[u8], s: Selection, f: Fit, element: u32, component: u32) ->
         return numbers::number_at(file, a.component_type, f.component, at as usize);
     }
     0
-}
-
-// The component of the element.
-pub(crate) fn value_in(file: &[u8], s: Selection, f: Fit, element: u32, component: u32) -> i64
-    requires { ⌜ accessorUnfit (length (now file)) s ≡ false ⌝ }
-    requires { ⌜ f ≡ fitOf (length (now file)) s ⌝ }
-    requires { ⌜ (element < s .accessor .count) × (component < componentCount (s .accessor .«element_type»)) ⌝ }
-    ensures { λ r. ⌜ r ≡ valueIn (now (file .entry)) s element component ⌝ }
-{
-    if s.accessor.has_sparse {
-        let k = entry_for(file, s, element);
-        if k < s.accessor.sparse.count {
-            return entry_value(file, s, f, k, component);
-        }
-    }
-    own_value(file, s, f, element, component)
 }

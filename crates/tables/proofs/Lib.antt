@@ -5,5 +5,6 @@ pub mod Faults
 pub mod Exact
 pub mod Fit
 pub mod Inside
+pub mod Own
 pub mod Unfits
 pub mod Meaning

@@ -2,7 +2,7 @@
 -- Assumes nothing.
 use Prim.Native.Nat.{ℕ, zero, suc, _+_}
 use mathlib.Core.Path.{_≡_, refl, sym, ap, _∙_}
-use mathlib.Core.Bool.{Bool, true, false, _&&_, true≢false}
+use mathlib.Core.Bool.{Bool, true, false, _&&_, _||_, true≢false}
 use mathlib.Core.List.{List, [], _∷_}
 use native.Mathlib.Omega.{arith}
 use borrow.Author.Tests.{lt-ltb, le-ltb, ltb-true, ltb-false}
@@ -24,6 +24,17 @@ and-left a b p = ap (λ (t : Bool). t && b) p
 pub and-right : (a b : Bool) → b ≡ false → (a && b) ≡ false
 and-right true b q = q
 and-right false b q = refl
+
+-- a disjunction that holds, with more tests after it
+pub or-more : (a b c : Bool) → (a || b) ≡ true → (a || (b || c)) ≡ true
+or-more true b c e = refl
+or-more false true c e = refl
+or-more false false c e = absurd (true≢false (sym e))
+
+-- with nothing after it
+pub or-end : (b : Bool) → b ≡ (b || false)
+or-end true = refl
+or-end false = refl
 
 -- the number of the first test that holds, below the last, says that one holds
 pub any-first : (tests : List Bool) → anyTrue tests ≡ ltb (firstTrue tests) (length tests)

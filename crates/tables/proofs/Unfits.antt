@@ -1,4 +1,4 @@
--- Refusal 63 in the order in which the code tests for it: by sparse, by the extent, by the accessor's own record and view.
+-- Refusal 63 in the parts in which the code tests for it: by sparse, and by all else.
 -- Assumes nothing.
 use Prim.Native.Nat.{ℕ, _+_, _<_, _≤_}
 use mathlib.Core.Path.{_≡_, refl, sym, ap, _∙_}
@@ -15,7 +15,7 @@ use Rattle.tables.specs.declared.selection.Extent.{Extent}
 use Rattle.tables.specs.declared.selection.Selection.{Selection}
 use Rattle.tables.specs.Accessors.{layoutOf, placedOf, elementTests, sparseTests, accessorTests}
 use Rattle.tables.specs.Fitness.{anyTrue, extentUnfit, namedUnfit, accessorUnfit}
-use Rattle.tables.specs.Stages.{ownLayout, ownUnfit, sparseUnfit}
+use Rattle.tables.specs.Stages.{ownUnfit, ownFit, sparseUnfit}
 use Rattle.tables.proofs.Truth.{any-fault}
 
 -- one of two lists of tests holds
@@ -47,11 +47,10 @@ regroup true false false false true false = refl
 regroup true false false false false true = refl
 regroup true false false false false false = refl
 
+-- 63 for an accessor: by sparse, if it has it, or by all else
 unfit-parts : (bytes : ℕ) (s : Selection)
-    → accessorUnfit bytes s
-    ≡ (s .accessor .«has_sparse» && sparseUnfit s
-    || (extentUnfit bytes (s .extent) || ownUnfit (s .extent) (s .accessor) (s .own) (ownLayout (s .accessor) (s .own))))
-unfolding accessorUnfit accessorTests
+    → accessorUnfit bytes s ≡ (s .accessor .«has_sparse» && sparseUnfit s || ownFit bytes s .unfit)
+unfolding accessorUnfit accessorTests ownUnfit
 unfit-parts bytes s =
     let a = s .accessor in
     let o = extentUnfit bytes (s .extent) in
@@ -63,53 +62,19 @@ unfit-parts bytes s =
     (any-append es ps ∙ ap (λ (t : Bool). anyTrue es || t) (sparse-guarded (s .extent .views) a (s .indices) (s .values) (layoutOf a (s .own))))
     ∙ regroup (a .«has_sparse») o (anyTrue es) (anyTrue ps) h n
 
-module _ (x : Extent) (a : Accessor) (own : BufferView) (l : Layout) (f : ℕ)
-    (e : f ≡ 25 + firstTrue (elementTests (x .views) (placedOf a) a own l)) where
-  -- the smallest of the rules 25 to 33 says whether one is broken
-  broken : ltb f 34 ≡ anyTrue (elementTests (x .views) (placedOf a) a own l)
-  broken =
-      ap (λ (n : ℕ). ltb n 34) e ∙ any-fault 25 9 (elementTests (x .views) (placedOf a) a own l) refl
-
-  by : (b : Bool) → ltb f 34 ≡ b → (b || (a .«has_buffer_view» && namedUnfit x own)) ≡ ownUnfit x a own l
-  by b q = ap (λ (t : Bool). t || (a .«has_buffer_view» && namedUnfit x own)) (sym q ∙ broken)
-
-  pub own-broken : f < 34 → true ≡ ownUnfit x a own l
-  own-broken h = by true (lt-ltb f 34 h)
-
-  -- where none is, the own view decides, ..
-  pub own-named : 34 ≤ f → a .«has_buffer_view» ≡ true → (r : Bool) → r ≡ namedUnfit x own → r ≡ ownUnfit x a own l
-  own-named h t r q = q ∙ ap (λ (b : Bool). b && namedUnfit x own) (sym t) ∙ by false (le-ltb f 34 h)
-
-  -- .. if there is one
-  pub own-none : 34 ≤ f → a .«has_buffer_view» ≡ false → false ≡ ownUnfit x a own l
-  own-none h t = ap (λ (b : Bool). b && namedUnfit x own) (sym t) ∙ by false (le-ltb f 34 h)
-
-or-true : (a b : Bool) → (a || (true || b)) ≡ true
-or-true true b = refl
-or-true false b = refl
+or-true : (a : Bool) → (a || true) ≡ true
+or-true true = refl
+or-true false = refl
 
 module _ (bytes : ℕ) (s : Selection) where
-  abbrev b : Bool
-  b = s .accessor .«has_sparse»
+  abbrev sparse : Bool
+  sparse = s .accessor .«has_sparse» && sparseUnfit s
 
-  abbrev own : Bool
-  own = ownUnfit (s .extent) (s .accessor) (s .own) (ownLayout (s .accessor) (s .own))
+  pub by-sparse : sparse ≡ true → accessorUnfit bytes s ≡ true
+  by-sparse p = unfit-parts bytes s ∙ ap (λ (u : Bool). u || ownFit bytes s .unfit) p
 
-  pub by-sparse : b ≡ true → true ≡ sparseUnfit s → true ≡ accessorUnfit bytes s
-  by-sparse t q =
-      ap (λ (u : Bool). u || (extentUnfit bytes (s .extent) || own)) (q ∙ ap (λ (u : Bool). u && sparseUnfit s) (sym t))
-      ∙ sym (unfit-parts bytes s)
+  pub by-own : ownFit bytes s .unfit ≡ true → accessorUnfit bytes s ≡ true
+  by-own p = unfit-parts bytes s ∙ ap (λ (u : Bool). sparse || u) p ∙ or-true sparse
 
-  pub by-extent : true ≡ extentUnfit bytes (s .extent) → true ≡ accessorUnfit bytes s
-  by-extent q =
-      sym (or-true (b && sparseUnfit s) own)
-      ∙ ap (λ (u : Bool). (b && sparseUnfit s) || (u || own)) q
-      ∙ sym (unfit-parts bytes s)
-
-  pub by-own : (b && sparseUnfit s) ≡ false → false ≡ extentUnfit bytes (s .extent) → (r : Bool) → r ≡ own
-      → r ≡ accessorUnfit bytes s
-  by-own p q r h =
-      h
-      ∙ ap (λ (u : Bool). u || own) q
-      ∙ ap (λ (u : Bool). u || (extentUnfit bytes (s .extent) || own)) (sym p)
-      ∙ sym (unfit-parts bytes s)
+  pub by-neither : sparse ≡ false → ownFit bytes s .unfit ≡ false → accessorUnfit bytes s ≡ false
+  by-neither p q = unfit-parts bytes s ∙ ap (λ (u : Bool). u || ownFit bytes s .unfit) p ∙ q

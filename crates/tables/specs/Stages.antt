@@ -2,15 +2,16 @@
 use Prim.Native.Nat.{ℕ}
 use mathlib.Core.Bool.{Bool, _||_, _&&_}
 use mathlib.Core.List.{List, [], _∷_}
-use lib.Dec.{ltb}
+use lib.Dec.{ltb, eqb}
 use Rattle.tables.specs.declared.BufferView.{BufferView}
 use Rattle.tables.specs.declared.Sparse.{Sparse}
 use Rattle.tables.specs.declared.Accessor.{Accessor}
 use Rattle.tables.specs.declared.accessors.Layout.{Layout}
 use Rattle.tables.specs.declared.selection.Extent.{Extent}
+use Rattle.tables.specs.declared.selection.Fit.{Fit}
 use Rattle.tables.specs.declared.selection.Selection.{Selection}
 use Rattle.tables.specs.Accessors.{layoutOf, uneven, misplaced, passes, placedOf, elementTests, sparseTests}
-use Rattle.tables.specs.Fitness.{anyTrue, namedUnfit}
+use Rattle.tables.specs.Fitness.{anyTrue, extentUnfit, namedUnfit}
 
 -- the layout without sparse: no bytes of an index
 abbrev pub ownLayout : Accessor → BufferView → Layout
@@ -43,9 +44,33 @@ packedTests s indices values l =
     || passes (s .«values_offset») (l .element) (s .count) (l .last) (values .«byte_length»))
     ∷ []
 
+-- rules 26 to 29, by the bytes of a component
+abbrev pub recordUnfit : Accessor → ℕ → Bool
+recordUnfit a size =
+    (eqb size 0 || eqb (a .count) 0)
+    || ((eqb (a .«element_type») 0 || ltb 7 (a .«element_type»)) || a .normalized && eqb size 4)
+
+-- rules 31 to 33 of an accessor with a bufferView
+abbrev pub elementsUnfit : Accessor → BufferView → Layout → Bool
+elementsUnfit a v l =
+    ltb (l .stride) (l .element)
+    || (passes (a .«byte_offset») (l .stride) (a .count) (l .last) (v .«byte_length»)
+    || misplaced (a .«byte_offset») (v .«byte_offset») (l .alignment))
+
 -- 63 by the accessor's own record and view
-abbrev pub ownUnfit : Extent → Accessor → BufferView → Layout → Bool
+unfoldable pub ownUnfit : Extent → Accessor → BufferView → Layout → Bool
 ownUnfit x a own l = anyTrue (elementTests (x .views) (placedOf a) a own l) || a .«has_buffer_view» && namedUnfit x own
+
+-- 63 by all but sparse, and how the elements lie: bytes of a component and of an element, effective stride
+abbrev pub ownFit : ℕ → Selection → Fit
+ownFit bytes s =
+    let l = layoutOf (s .accessor) (s .own) in
+    record {
+      unfit = extentUnfit bytes (s .extent) || ownUnfit (s .extent) (s .accessor) (s .own) (ownLayout (s .accessor) (s .own));
+      component = l .component;
+      element = l .element;
+      stride = l .stride;
+    }
 
 -- 63 by sparse and its two views
 abbrev pub sparseUnfit : Selection → Bool

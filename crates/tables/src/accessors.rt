@@ -106,7 +106,7 @@ fn less_one(n: u32) -> u32
 }
 
 // The sum fits 64 bits for all numbers.
-fn is_past(byte_offset: u32, step: u32, count: u32, last: u32, byte_length: u32) -> bool
+pub(crate) fn is_past(byte_offset: u32, step: u32, count: u32, last: u32, byte_length: u32) -> bool
     ensures { λ r. ⌜ r ≡ passes «byte_offset» step count last «byte_length» ⌝ }
 {
     let before = less_one(count);
@@ -137,13 +137,7 @@ fn place_fault(a: Accessor, own: BufferView, l: Layout) -> u32
 }
 
 // The smallest of the rules 25 to 33 that the accessor breaks, 34 if none.
-pub(crate) fn element_fault(
-    views: u32,
-    placed: bool,
-    a: Accessor,
-    own: BufferView,
-    l: Layout,
-) -> u32
+fn element_fault(views: u32, placed: bool, a: Accessor, own: BufferView, l: Layout) -> u32
     ensures { λ r. ⌜ r ≡ 25 + firstTrue (elementTests views placed a own l) ⌝ }
 {
     let has = a.has_buffer_view;

@@ -6,12 +6,13 @@ use crate::accessor_at;
 use crate::accessors;
 use crate::accessors::Layout;
 use crate::view_at;
-use crate::views;
 ghost use mathlib.Core.Path.{_≡_};
-ghost use mathlib.Core.Bool.{true};
+ghost use mathlib.Core.Bool.{true, _&&_};
+ghost use Rattle.tables.specs.Elements.{isSize};
+ghost use Rattle.tables.specs.Accessors.{misplaced};
 ghost use Rattle.tables.specs.Fitness.{extentOf, selectionOf, viewSelectionOf};
-ghost use Rattle.tables.specs.Fitness.{extentUnfit, namedUnfit, accessorUnfit, fitOf, viewUnfit};
-ghost use Rattle.tables.specs.Stages.{ownLayout, ownUnfit, sparseUnfit};
+ghost use Rattle.tables.specs.Fitness.{extentUnfit, namedUnfit, viewUnfit};
+ghost use Rattle.tables.specs.Stages.{ownLayout, recordUnfit, elementsUnfit, ownUnfit, ownFit, sparseUnfit};
 
 // The five counts and the buffer's place.
 #[repr(C)]
@@ -42,7 +43,8 @@ pub struct ViewSelection {
     pub view: BufferView,
 }
 
-// Whether 63 is given, and for the reading where it is not: bytes of a component and of an element, effective stride.
+// Whether 63 is given, sparse aside, and for the reading where it is not: bytes of a component and of an element,
+// effective stride.
 #[repr(C)]
 pub struct Fit {
     pub unfit: bool,
@@ -107,15 +109,27 @@ fn extent_unfit(bytes: usize, x: Extent) -> bool
         | ((bytes as u64) < end)
 }
 
+// Rules 21 to 24 of a view that the accessor names. No call: a reading comes here each time.
 fn named_unfit(x: Extent, v: BufferView) -> bool
     ensures { λ r. ⌜ r ≡ namedUnfit x v ⌝ }
 {
-    let fault = views::view_fault(x.buffers, x.buffer_length, v);
-    (v.buffer != 0) | (fault < 25)
+    let end = (v.byte_offset as u64) + (v.byte_length as u64);
+    let stride = v.byte_stride;
+    let target = v.target;
+    if (v.buffer != 0) | (x.buffers <= v.buffer) {
+        return true;
+    }
+    if (v.byte_length == 0) | ((x.buffer_length as u64) < end) {
+        return true;
+    }
+    if v.has_byte_stride & ((stride % 4 != 0) | (stride < 4) | (252 < stride)) {
+        return true;
+    }
+    v.has_target & (target != 34962) & (target != 34963)
 }
 
 // Rules 34 to 39, and 21 to 24 of the two views of sparse.
-fn sparse_unfit(s: Selection) -> bool
+fn with_sparse_unfit(s: Selection) -> bool
     requires { ⌜ s .accessor .«has_sparse» ≡ true ⌝ }
     ensures { λ r. ⌜ r ≡ sparseUnfit s ⌝ }
 {
@@ -130,47 +144,90 @@ fn sparse_unfit(s: Selection) -> bool
     (fault < 40) | (first | second)
 }
 
-// Rules 25 to 33, and 21 to 24 of the accessor's own view.
-fn own_unfit(x: Extent, a: Accessor, own: BufferView, l: Layout) -> bool
-    ensures { λ r. ⌜ r ≡ ownUnfit x a own l ⌝ }
+// Refusal 63 of a component reading by sparse, if the accessor has it.
+pub fn sparse_unfit(s: Selection) -> bool
+    ensures { λ r. ⌜ r ≡ (s .accessor .«has_sparse» && sparseUnfit s) ⌝ }
 {
-    let placed = a.byte_offset != 0;
-    let fault = accessors::element_fault(x.views, placed, a, own, l);
-    if fault < 34 {
-        return true;
-    }
-    if a.has_buffer_view {
-        return named_unfit(x, own);
+    if s.accessor.has_sparse {
+        return with_sparse_unfit(s);
     }
     false
 }
 
-// Sparse first: what only it reads is then read only with it.
-fn unfit_with(bytes: usize, s: Selection, l: Layout) -> bool
-    requires { ⌜ l ≡ ownLayout (s .accessor) (s .own) ⌝ }
-    ensures { λ r. ⌜ r ≡ accessorUnfit bytes s ⌝ }
+// Rules 26 to 29, by the bytes of a component.
+fn record_unfit(a: Accessor, size: u32) -> bool
+    ensures { λ r. ⌜ r ≡ recordUnfit a size ⌝ }
 {
-    if s.accessor.has_sparse {
-        let sparse = sparse_unfit(s);
-        if sparse {
-            return true;
-        }
-    }
-    let outer = extent_unfit(bytes, s.extent);
-    if outer {
+    if (size == 0) | (a.count == 0) {
         return true;
     }
-    own_unfit(s.extent, s.accessor, s.own, l)
+    if (a.element_type == 0) | (7 < a.element_type) {
+        return true;
+    }
+    a.normalized & (size == 4)
 }
 
-// Refusal 63 of a component reading, for so many lent bytes, and how the elements lie.
-pub fn accessor_fit(bytes: usize, s: Selection) -> Fit
-    ensures { λ r. ⌜ r ≡ fitOf bytes s ⌝ }
+// Rule 32, for the sizes there are: no division.
+fn is_unaligned(byte_offset: u32, view_offset: u32, m: u32) -> bool
+    requires { ⌜ isSize m ≡ true ⌝ }
+    ensures { λ r. ⌜ r ≡ misplaced «byte_offset» «view_offset» m ⌝ }
+{
+    let place = (byte_offset as u64) + (view_offset as u64);
+    if m == 4 {
+        return (byte_offset % 4 != 0) | (place % 4 != 0);
+    }
+    if m == 2 {
+        return (byte_offset % 2 != 0) | (place % 2 != 0);
+    }
+    false
+}
+
+// Rules 31 to 33.
+fn elements_unfit(a: Accessor, own: BufferView, l: Layout) -> bool
+    requires { ⌜ isSize (l .alignment) ≡ true ⌝ }
+    ensures { λ r. ⌜ r ≡ elementsUnfit a own l ⌝ }
+{
+    if l.stride < l.element {
+        return true;
+    }
+    let past = accessors::is_past(a.byte_offset, l.stride, a.count, l.last, own.byte_length);
+    if past {
+        return true;
+    }
+    is_unaligned(a.byte_offset, own.byte_offset, l.alignment)
+}
+
+// Rules 25 to 33, and 21 to 24 of the accessor's own view. Rule 30 is not tested: where 23, 26 and 27 hold it holds.
+fn own_unfit(x: Extent, a: Accessor, own: BufferView, l: Layout) -> bool
+    requires { ⌜ l ≡ ownLayout a own ⌝ }
+    ensures { λ r. ⌜ r ≡ ownUnfit x a own l ⌝ }
+{
+    let record = record_unfit(a, l.component);
+    if record {
+        return true;
+    }
+    if a.has_buffer_view {
+        if x.views <= a.buffer_view {
+            return true;
+        }
+        let named = named_unfit(x, own);
+        if named {
+            return true;
+        }
+        return elements_unfit(a, own, l);
+    }
+    a.byte_offset != 0
+}
+
+// Refusal 63 of a component reading, sparse aside, for so many lent bytes, and how the elements lie.
+pub fn own_fit(bytes: usize, s: Selection) -> Fit
+    ensures { λ r. ⌜ r ≡ ownFit bytes s ⌝ }
 {
     let l = accessors::own_layout(s.accessor, s.own);
-    let unfit = unfit_with(bytes, s, l);
+    let outer = extent_unfit(bytes, s.extent);
+    let inner = own_unfit(s.extent, s.accessor, s.own, l);
     Fit {
-        unfit,
+        unfit: outer | inner,
         component: l.component,
         element: l.element,
         stride: l.stride,
