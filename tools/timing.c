@@ -29,6 +29,8 @@ typedef struct { uint32_t number; int64_t value; } Reading;
 typedef struct { uint32_t number; size_t count; } Walked;
 
 Reading time_component_in(const uint8_t *file, size_t length, Selection s, uint32_t element, uint32_t component);
+uint32_t time_components(const uint8_t *file, size_t length, Selection s, uint32_t n);
+uint32_t time_components_beside(const uint8_t *file, size_t length, Selection s, uint32_t n);
 Reading time_component(const uint8_t *file, size_t length, Tables t, uint32_t accessor, uint32_t element, uint32_t component);
 Walked time_walk(Tables t, uint32_t scene, uint16_t *list, size_t length);
 
@@ -152,6 +154,34 @@ static double best_component(int how, uint32_t count, int runs) {
     return least;
 }
 
+// How many of the first n components are not 0, by plain reads of the same bytes.
+__attribute__((noipa, optimize("no-tree-vectorize"))) static uint32_t plain_components(const uint8_t *file, size_t length, Selection s, uint32_t n) {
+    uint32_t count = 0, v;
+    for (uint32_t i = 0; i < n; i++) {
+        memcpy(&v, file + s.extent.buffer_start + 12 * (i / 3) + 4 * (i % 3), 4);
+        if (v != 0) count++;
+    }
+    return length == 0 ? 0 : count;
+}
+
+// The best time of one component in a loop over all 15,000.
+static double best_loop(uint32_t (*f)(const uint8_t *, size_t, Selection, uint32_t), int runs, uint32_t *count) {
+    double least = 1e30;
+    for (int k = 0; k < runs; k++) {
+        double from = now();
+        *count = f(model, sizeof model, selection, 15000);
+        double took = (now() - from) / 15000;
+        if (took < least) least = took;
+    }
+    return least;
+}
+
+static void loop_line(const char *name, uint32_t (*f)(const uint8_t *, size_t, Selection, uint32_t)) {
+    uint32_t count;
+    double took = best_loop(f, 300, &count);
+    printf("%-21s %.2f ns a component (%u not 0)\n", name, took, count);
+}
+
 static uint8_t *checked;
 static size_t checked_length;
 
@@ -231,7 +261,10 @@ int main(void) {
     make_model();
     printf("component, plain read %.2f ns\n", best_component(0, 15000, 500));
     printf("the same, by value    %.2f ns\n", best_component(3, 15000, 500));
-    printf("component_in, dense   %.2f ns\n", best_component(1, 15000, 300));
+    printf("component_in, from C  %.2f ns\n", best_component(1, 15000, 300));
+    loop_line("loop, plain read", plain_components);
+    loop_line("loop, component_in", time_components);
+    loop_line("the same, beside more", time_components_beside);
     printf("component, by tables  %.0f ns\n", best_component(2, 1500, 100));
     Walked w;
     size_t idle = stack_used(walk_on, NULL), walk = stack_used(walk_on, &w);

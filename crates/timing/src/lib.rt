@@ -10,6 +10,7 @@ ghost use Rattle.document.specs.Said.{documentOf};
 ghost use Rattle.glb.specs.Check.{checkOf};
 ghost use Rattle.access.specs.Readings.{componentIn, componentOf};
 ghost use Rattle.scene.specs.Walk.{walkOf};
+ghost use Rattle.timing_loop.specs.Counts.{countOf};
 
 // Rules 1 to 8: the number.
 #[no_mangle]
@@ -58,6 +59,14 @@ pub extern "C" fn time_component_in(
     ensures { λ r. ⌜ r ≡ componentIn (now (file .entry)) s element component ⌝ }
 {
     access::component_in(file, s, element, component)
+}
+
+// The loop of `timing_loop`, in a library with other uses of `component_in`.
+#[no_mangle]
+pub extern "C" fn time_components_beside(file: &[u8], s: Selection, n: u32) -> u32
+    ensures { λ r. ⌜ r ≡ countOf (now (file .entry)) s n ⌝ }
+{
+    timing_loop::time_components(file, s, n)
 }
 
 // One component, from whole tables.
