@@ -4,6 +4,7 @@ mod Ranges
 pub mod Finds
 pub mod Found
 pub mod Exact
+pub mod Inside
 pub mod Accepted
 pub mod Fits
 pub mod Readings
