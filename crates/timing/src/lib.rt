@@ -63,10 +63,10 @@ pub extern "C" fn time_component_in(
 
 // The loop of `timing_loop`, in a library with other uses of `component_in`.
 #[no_mangle]
-pub extern "C" fn time_components_beside(file: &[u8], s: Selection, n: u32) -> u32
-    ensures { λ r. ⌜ r ≡ countOf (now (file .entry)) s n ⌝ }
+pub extern "C" fn time_elements_beside(file: &[u8], s: Selection, component: u32, n: u32) -> u32
+    ensures { λ r. ⌜ r ≡ countOf (now (file .entry)) s component n ⌝ }
 {
-    timing_loop::time_components(file, s, n)
+    timing_loop::time_elements(file, s, component, n)
 }
 
 // One component, from whole tables.

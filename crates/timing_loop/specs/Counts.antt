@@ -1,5 +1,5 @@
--- What the loop over components counts. Assumes nothing: these are definitions.
-use Prim.Native.Nat.{ℕ, zero, suc, _/_, _%_}
+-- What the loop over elements counts. Assumes nothing: these are definitions.
+use Prim.Native.Nat.{ℕ, zero, suc}
 use mathlib.Core.Bool.{Bool, true, false, cond}
 use mathlib.Core.List.{List}
 use lib.IntN.{ℤ, pos, negsuc}
@@ -12,8 +12,8 @@ isZero (pos zero) = true
 isZero (pos (suc n)) = false
 isZero (negsuc n) = false
 
--- how many of the first n components, three to an element, have another value than 0
-unfoldable pub countOf : List ℕ → Selection → ℕ → ℕ
-countOf file s zero = 0
-countOf file s (suc i) =
-    cond (isZero (componentIn file s (i / 3) (i % 3) .value)) (countOf file s i) (suc (countOf file s i))
+-- how many of the first n elements have another value than 0 as this component
+unfoldable pub countOf : List ℕ → Selection → ℕ → ℕ → ℕ
+countOf file s component zero = 0
+countOf file s component (suc i) =
+    cond (isZero (componentIn file s i component .value)) (countOf file s component i) (suc (countOf file s component i))
