@@ -1,4 +1,6 @@
 // The GLB container: rules 1 to 8, and where the JSON chunk and the BIN chunk lie.
+#![tactic(auto)]
+
 ghost use Rattle.std.specs.Prelude.{◌≡◌, cond, not, ◌&&◌, eqb, ◌+◌, ◌≤◌, ◌<◌, length, drop};
 ghost use Rattle.laws.specs.Bytes.{little_at};
 ghost use Rattle.container.specs.Chunks.{starts_whole, chunks_of, bytes_of};

@@ -1,4 +1,6 @@
 // Rule 9: whether bytes are UTF-8, by the table of RFC 3629.
+#![tactic(auto)]
+
 ghost use Rattle.std.specs.Prelude.{◌≡◌};
 ghost use Rattle.utf8.specs.Utf8.{byte_at, width_of, utf8_of};
 
