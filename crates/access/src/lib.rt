@@ -14,7 +14,7 @@ mod values;
 
 // The number of the refusal, 0 where the component is answered; the value, 0 where it is refused.
 #[repr(C)]
-#[derive(Drop)]
+#[derive(Clone, Copy)]
 pub struct Reading {
     pub number: u32,
     pub value: i64,
@@ -22,7 +22,7 @@ pub struct Reading {
 
 // Where a part lies in the file.
 #[repr(C)]
-#[derive(Drop)]
+#[derive(Clone, Copy)]
 pub struct Place {
     pub start: usize,
     pub length: usize,

@@ -13,7 +13,7 @@ const BIN: u32 = 0x004E4942;
 
 // The smallest rule that the file breaks and its item; or number 0, and where the data of the two chunks lie in the file.
 #[repr(C)]
-#[derive(Drop)]
+#[derive(Clone, Copy)]
 pub struct Container {
     pub number: u32,
     pub item: u32,
@@ -25,7 +25,7 @@ pub struct Container {
 }
 
 // One pass over the chunks: where they end, how many they are, and how many stand right before the first that breaks rule 6 or rule 7.
-#[derive(Drop)]
+#[derive(Clone, Copy)]
 struct Found {
     end: usize,
     count: u32,

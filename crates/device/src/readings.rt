@@ -9,7 +9,7 @@ use crate::records;
 use access::Reading;
 
 // Where a view starts in the file and how long it is, both 0 when refused.
-#[derive(Drop)]
+#[derive(Clone, Copy)]
 pub(crate) struct Place {
     pub number: u32,
     pub start: u64,

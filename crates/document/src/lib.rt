@@ -15,7 +15,7 @@ mod top;
 // The smallest of rules 9 to 18 that the chunk breaks, 0 if none, with the place of rules 9 to 13; what the text says as
 // tables, the buffer's place in the file left 0, and of each accessor whether byteOffset is there (rule 25); rules 41 to 46
 // of the text's lists. Refused, all is 0.
-#[derive(Drop)]
+#[derive(Clone, Copy)]
 pub struct Document {
     pub number: u32,
     pub place: usize,

@@ -12,7 +12,7 @@ mod late;
 // The smallest rule that the file breaks, 0 if none, with the smallest item that breaks it, 0 where no item is named, and
 // the tables. Refused, every count and entry in the tables is 0.
 #[repr(C)]
-#[derive(Drop)]
+#[derive(Clone, Copy)]
 pub struct Checked {
     pub verdict: u32,
     pub item: u32,

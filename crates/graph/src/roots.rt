@@ -6,7 +6,7 @@ use crate::lists::{earlier_of, entry};
 
 // The smallest scene so far with a root that is no node (44), with one that it lists twice (45), with one that has a
 // parent (46).
-#[derive(Drop)]
+#[derive(Clone, Copy)]
 pub struct Roots {
     pub past: u16,
     pub twice: u16,

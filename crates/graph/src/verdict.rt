@@ -6,7 +6,7 @@ use crate::lists::entry;
 use crate::roots::Roots;
 
 // A rule's number and the smallest item that breaks it; 0 and 0 where no rule is broken.
-#[derive(Drop)]
+#[derive(Clone, Copy)]
 pub struct Fault {
     pub number: u32,
     pub item: usize,

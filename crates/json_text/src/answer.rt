@@ -1,5 +1,5 @@
 // How a scan ends: past what it read, at the byte that cannot stand there, or at a bracket with no level left.
-#[derive(Drop)]
+#[derive(Clone, Copy)]
 pub enum Scan {
     Past(usize),
     Broke(usize),

@@ -1,4 +1,6 @@
 // A JSON text, read from the left with the grammar of RFC 8259 (rule 11), and the depth count over its bytes (rule 10).
+#![tactic(auto)]
+
 ghost use Rattle.std.specs.Prelude.{◌≡◌};
 ghost use Rattle.json_text.specs.Answer.{scan_of};
 ghost use Rattle.json_text.specs.Depth.{depth_of};
@@ -22,7 +24,7 @@ use value::text;
 const LEVELS: usize = 32;
 
 // Whether the depth count stays within the limit, or the place of the first bracket with which it passes it.
-#[derive(Drop)]
+#[derive(Clone, Copy)]
 pub enum Nesting {
     Within,
     Passes(usize),

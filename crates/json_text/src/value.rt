@@ -9,7 +9,7 @@ use crate::string::{chars, name};
 use crate::token::{literal, peek, skip_ws};
 
 // What follows a value in an array or an object.
-#[derive(Drop)]
+#[derive(Clone, Copy)]
 pub(crate) enum Next {
     More(usize),
     End(usize),

@@ -1,4 +1,6 @@
 // What the bench program writes, as bytes in a lent list.
+#![tactic(auto)]
+
 ghost use Rattle.std.specs.Prelude.{◌+◌, ◌≤◌, ◌≡◌, length};
 ghost use Rattle.lines.specs.Report.{verdict_line, counts_line, report_of, too_long, longest, count_in, written_in, Put};
 

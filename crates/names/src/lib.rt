@@ -4,7 +4,7 @@ ghost use Rattle.names.specs.Strings.{slashed, same as same_bytes};
 ghost use Rattle.names.specs.Names.{escaped_of, search_of, repeat_of};
 
 // Of rule 12. Holds(p): the opening mark of the first name with a backslash is byte p.
-#[derive(Drop)]
+#[derive(Clone, Copy)]
 pub enum Escaped {
     Plain,
     Holds(usize),
@@ -12,7 +12,7 @@ pub enum Escaped {
 
 // Of rule 13. Repeats(p, n): the opening mark of the first name that repeats an earlier one of its object is byte p.
 // n is the number of pairs of names of one length that were compared. Full: too many bytes, or too many names at once.
-#[derive(Drop)]
+#[derive(Clone, Copy)]
 pub enum Search {
     Clear(usize),
     Repeats(usize, usize),

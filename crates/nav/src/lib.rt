@@ -12,7 +12,7 @@ pub mod members;
 pub mod scalars;
 
 // What a value is, by its first byte.
-#[derive(Drop)]
+#[derive(Clone, Copy)]
 pub enum Kind {
     Object,
     Array,
@@ -25,7 +25,7 @@ pub enum Kind {
 }
 
 // Where a step through an array leads: to an element, past the closing bracket, or nowhere.
-#[derive(Drop)]
+#[derive(Clone, Copy)]
 pub enum Step {
     More(usize),
     End(usize),

@@ -10,7 +10,7 @@ use crate::{Step, next_at, open_at};
 use json_text::{Scan, name_at};
 
 // Where a step through an object leads: to a member's name and its value, past the closing brace, or nowhere.
-#[derive(Drop)]
+#[derive(Clone, Copy)]
 pub enum Member {
     More(usize, usize),
     End(usize),
@@ -18,7 +18,7 @@ pub enum Member {
 }
 
 // The places of eight members' values, and the place past their object; each is 0 for none.
-#[derive(Drop)]
+#[derive(Clone, Copy)]
 pub struct Places {
     pub a: usize,
     pub b: usize,

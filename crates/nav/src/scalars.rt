@@ -9,7 +9,7 @@ use crate::front;
 use json_text::{Scan, digits_at, is_plain, literal_at, value_at};
 
 // An integer of document 01, or none.
-#[derive(Drop)]
+#[derive(Clone, Copy)]
 pub enum Integer {
     Is(u32),
     Not,

@@ -14,7 +14,7 @@ pub mod subtree;
 
 // The number is 0 where the scene is walked, the count then how many entries of the list were written.
 #[repr(C)]
-#[derive(Drop)]
+#[derive(Clone, Copy)]
 pub struct Walked {
     pub number: u32,
     pub count: usize,

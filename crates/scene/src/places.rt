@@ -4,13 +4,13 @@ ghost use Rattle.scene.specs.Lists.{starts_of, lengths_of};
 
 use tables::List;
 
-#[derive(Drop)]
+#[derive(Clone, Copy)]
 pub struct NodePlaces {
     pub starts: [u16; 128],
     pub lengths: [u16; 128],
 }
 
-#[derive(Drop)]
+#[derive(Clone, Copy)]
 pub struct ScenePlaces {
     pub starts: [u16; 8],
     pub lengths: [u16; 8],

@@ -11,7 +11,7 @@ use crate::{Accessor, BufferView, Sparse, finding, layout};
 // How an accessor's elements lie in its view: bytes of a component, of an element and of the last one, the effective
 // stride, what places are multiples of; and the bytes of a sparse index.
 #[repr(C)]
-#[derive(Drop)]
+#[derive(Clone, Copy)]
 pub struct Layout {
     pub component: u32,
     pub element: u32,

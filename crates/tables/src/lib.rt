@@ -1,4 +1,6 @@
 // The tables of a GLB file: its buffer views, accessors, node and scene lists as records, and the rules on these.
+#![tactic(auto)]
+
 ghost use Rattle.std.specs.Prelude.{◌≡◌, get_or};
 ghost use Rattle.tables.specs.Records.{no_view, no_accessor, empty_tables, view_at};
 
@@ -10,7 +12,7 @@ pub mod views;
 
 // A member of the JSON text that may be absent has a flag beside it; its number is then 0.
 #[repr(C)]
-#[derive(Drop)]
+#[derive(Clone, Copy)]
 pub struct BufferView {
     pub buffer: u32,
     pub byte_offset: u32,
@@ -22,7 +24,7 @@ pub struct BufferView {
 }
 
 #[repr(C)]
-#[derive(Drop)]
+#[derive(Clone, Copy)]
 pub struct Sparse {
     pub count: u32,
     pub indices_view: u32,
@@ -34,7 +36,7 @@ pub struct Sparse {
 
 // element_type is 1 SCALAR, 2 VEC2, 3 VEC3, 4 VEC4, 5 MAT2, 6 MAT3, 7 MAT4, and 0 none of them.
 #[repr(C)]
-#[derive(Drop)]
+#[derive(Clone, Copy)]
 pub struct Accessor {
     pub buffer_view: u32,
     pub has_buffer_view: bool,
@@ -49,14 +51,14 @@ pub struct Accessor {
 
 // The place of a node's children or a scene's roots in the packed list. u16 as the packed numbers are.
 #[repr(C)]
-#[derive(Drop)]
+#[derive(Clone, Copy)]
 pub struct List {
     pub start: u16,
     pub length: u16,
 }
 
 #[repr(C)]
-#[derive(Drop)]
+#[derive(Clone, Copy)]
 pub struct Tables {
     pub buffers: u32,
     pub views: u32,

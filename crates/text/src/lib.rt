@@ -9,7 +9,7 @@ use utf8::Utf8;
 // The smallest of the rules 9 to 13 that a chunk breaks, 0 if none, and the place in the chunk where it is broken, 0 where none is.
 // 8: the chunk is longer than 65,536 bytes, and no other rule is looked at.
 #[repr(C)]
-#[derive(Drop)]
+#[derive(Clone, Copy)]
 pub struct Fault {
     pub number: u32,
     pub place: usize,

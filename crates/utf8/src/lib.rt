@@ -5,7 +5,7 @@ ghost use Rattle.std.specs.Prelude.{◌≡◌};
 ghost use Rattle.utf8.specs.Utf8.{byte_at, width_of, utf8_of};
 
 // Whole: the bytes are UTF-8. Ends(p): they are not, and their longest start of whole characters has p bytes.
-#[derive(Drop)]
+#[derive(Clone, Copy)]
 pub enum Utf8 {
     Whole,
     Ends(usize),

@@ -1,0 +1,20 @@
+use Prim.Native.Nat.{◌+◌, ◌/◌, ◌≤◌, ◌<◌}
+use mathlib.Core.Path.{◌≡◌, refl, ◌∙◌}
+use native.Mathlib.Omega.{arith}
+use lib.ListN.{length, length-set}
+use lib.Seq.{sets}
+use Rattle.lines.specs.Decimal.{decimal_of}
+use Rattle.lines.proofs.Digits.{width_some, width_large}
+use Rattle.lines.proofs.Stores.{digits_next, digits_first}
+use borrow.Author.Rules.{rules}
+use Rattle.lines.proofs.pieces.put_decimal.Given as goal
+
+abbrev pub invariant-loop-rest : goal.invariant-loop-rest
+invariant-loop-rest l = (l.i + 1 ≡ l.at + length (decimal_of l.rest))
+    × (l.i < length l.initial.out)
+    × (l.rest ≤ l.n)
+    × (length l.out ≡ length l.initial.out)
+    × (sets l.out l.at (decimal_of l.rest) ≡ sets l.initial.out l.at (decimal_of l.n))
+
+abbrev pub decreases-loop-rest : goal.decreases-loop-rest
+decreases-loop-rest l = l.rest

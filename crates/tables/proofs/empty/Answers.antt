@@ -1,0 +1,7 @@
+use borrow.Author.Rules.{rules}
+use Rattle.tables.specs.Records.{empty_tables}
+use Rattle.tables.proofs.empty.Goals as goal
+
+pub returns : goal.returns
+unfolding empty_tables
+returns c = rw (c.no_accessor-accessor.ensures, c.no_view-view.ensures)

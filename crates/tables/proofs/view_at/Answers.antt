@@ -1,0 +1,5 @@
+use borrow.Author.Rules.{rules}
+use Rattle.tables.proofs.view_at.Goals as goal
+
+pub returns : goal.returns
+returns c = rw c.at_most-at.ensures

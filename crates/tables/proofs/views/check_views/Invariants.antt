@@ -1,0 +1,15 @@
+use borrow.Author.Rules.{rules}
+use Prim.Native.Nat.{◌-◌, ◌≤◌, min}
+use mathlib.Core.Path.{◌≡◌}
+use mathlib.Core.Logic.{⊎_elim}
+use native.Mathlib.Omega.{arith}
+use Rattle.laws.proofs.OnePass.{Seen, seen_none, seen_lower, seen_keep}
+use Rattle.tables.specs.Views.{view_broken, views_finding}
+use Rattle.tables.proofs.Findings.{found, found_none}
+use Rattle.tables.proofs.views.check_views.Given as goal
+
+abbrev pub invariant-loop-i : goal.invariant-loop-i
+invariant-loop-i l = (l.i ≤ l.n) × Seen (view_broken l.buffers l.buffer_length l.records) 21 4 l.i l.rule l.item
+
+abbrev pub decreases-loop-i : goal.decreases-loop-i
+decreases-loop-i l = l.n - l.i
