@@ -1,4 +1,6 @@
 // Readings of components and buffer views, for any bytes and any tables: the numbers 60 to 63 and 67.
+#![tactic(auto)]
+
 ghost use Rattle.std.specs.Prelude.{◌≡◌, true, false, length};
 ghost use Rattle.tables.specs.Fitness.{selection_of, accessor_unfit};
 ghost use Rattle.tables.specs.Stages.{own_fit};
