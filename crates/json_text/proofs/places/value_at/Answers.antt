@@ -1,0 +1,10 @@
+-- `json::places::value_at` meets its contract.
+-- Assumes nothing.
+use Rattle.json_text.proofs.Ends.{value_is}
+use borrow.Author.Rules.{rules}
+use Rattle.json_text.proofs.places.value_at.Goals as goal
+
+pub returns : goal.returns
+returns c =
+    let a = c.args in
+    value_is a.s.now a.at (rw c.clamp.ensures.same at c.value.ensures)
