@@ -51,24 +51,24 @@ escape-requires c = let h = byte 0x5c c.peek-b.ensures c.if-b-eq92.true (omega a
 
 pub loop-end-smaller-in-Past : goal.loop-end-smaller-in-Past
 loop-end-smaller-in-Past c =
-    let e = said_past c.escape.ensures c.p-1.given.1 in
-    let h = later c.args.s.now (c.loop-end.i + 1) c.p-1.given.0.0 e.0
+    let e = said_past c.in-Past.ensures refl in
+    let h = later c.args.s.now (c.loop-end.i + 1) c.in-Past.p e.0
     (escape_shorter e.1.1) in
     omega arith
 
 pub loop-end-preserved-in-Past : goal.loop-end-preserved-in-Past
 loop-end-preserved-in-Past c =
-    let e = said_past c.escape.ensures c.p-1.given.1 in
+    let e = said_past c.in-Past.ensures refl in
     let h = byte 0x5c c.peek-b.ensures
     c.if-b-eq92.true (omega arith) in (
       e.0,
       λ o a. c.loop-end.invariant.1 o
-          (escape-step c.p-1.given.0.0 h e.1.1 a),
+          (escape-step c.in-Past.p h e.1.1 a),
     )
 
 pub returns-in-Broke : goal.returns-in-Broke
 returns-in-Broke c =
-    let e = said_broke c.escape.ensures c.p-in-Broke-1.given.1 in
+    let e = said_broke c.in-Broke.ensures refl in
     let h = byte 0x5c c.peek-b.ensures
     c.if-b-eq92.true (omega arith) in
     c.loop-end.invariant.1 _
@@ -76,7 +76,7 @@ returns-in-Broke c =
 
 pub returns-in-Deep : goal.returns-in-Deep
 returns-in-Deep c =
-    let e = said_deep c.escape.ensures c.p-in-Deep-1.given.1 in
+    let e = said_deep c.in-Deep.ensures refl in
     let h = byte 0x5c c.peek-b.ensures
     c.if-b-eq92.true (omega arith) in
     c.loop-end.invariant.1 _

@@ -1,6 +1,7 @@
 -- `json::string::name` meets its contract.
 -- Assumes nothing.
 use native.Mathlib.Omega.{arith}
+use mathlib.Core.Path.{refl}
 use Rattle.json_text.specs.Grammar.Name.{name}
 use Rattle.json_text.specs.Faults.NoName.{name_bad, name_in, name_after}
 use Rattle.json_text.specs.Scans.Says.{says_past, says_broke, says_deep}
@@ -12,7 +13,7 @@ pub chars-requires : goal.chars-requires
 chars-requires c = let h = byte 0x22 c.peek.ensures c.if-peek-eq34.true (omega arith) in h.next
 
 pub skip_ws-q-requires : goal.skip_ws-q-requires
-skip_ws-q-requires c = (said_past c.chars.ensures c.p-1.given.1).0
+skip_ws-q-requires c = (said_past c.in-Past.ensures refl).0
 
 pub skip_ws-requires : goal.skip_ws-requires
 skip_ws-requires c = let h = byte 0x3a c.peek-in-Past.ensures c.if-peek-eq58.true (omega arith) in h.next
@@ -21,8 +22,7 @@ pub returns-then-peek-eq58 : goal.returns-then-peek-eq58
 returns-then-peek-eq58 c =
     let h = byte 0x22 c.peek.ensures
     c.if-peek-eq34.true (omega arith) in
-    let e = said_past c.chars.ensures
-    c.p-1.given.1 in
+    let e = said_past c.in-Past.ensures refl in
     let k = byte 0x3a c.peek-in-Past.ensures c.if-peek-eq58.true (omega arith) in
     let v = c.skip_ws.ensures in
     rw h.split
@@ -33,8 +33,7 @@ pub returns-in-Past : goal.returns-in-Past
 returns-in-Past c =
     let h = byte 0x22 c.peek.ensures
     c.if-peek-eq34.true (omega arith) in
-    let e = said_past c.chars.ensures
-    c.p-1.given.1 in
+    let e = said_past c.in-Past.ensures refl in
     let w = c.skip_ws-q.ensures in
     rw h.split
     (says_broke w.within
@@ -45,14 +44,14 @@ pub returns-in-Broke : goal.returns-in-Broke
 returns-in-Broke c =
     let h = byte 0x22 c.peek.ensures
     c.if-peek-eq34.true (omega arith) in
-    let e = said_broke c.chars.ensures c.p-in-Broke-1.given.1 in
+    let e = said_broke c.in-Broke.ensures refl in
     rw h.split (says_broke e.0 (name_in e.1))
 
 pub returns-in-Deep : goal.returns-in-Deep
 returns-in-Deep c =
     let h = byte 0x22 c.peek.ensures
     c.if-peek-eq34.true (omega arith) in
-    let e = said_deep c.chars.ensures c.p-in-Deep-1.given.1 in
+    let e = said_deep c.in-Deep.ensures refl in
     rw h.split (says_deep e.0 (name_in e.1))
 
 pub returns : goal.returns

@@ -1,6 +1,7 @@
 -- `json::value::text` meets its contract.
 -- Assumes nothing.
 use native.Mathlib.Omega.{arith}
+use mathlib.Core.Path.{refl}
 use mathlib.Core.Path.{ap}
 use lib.ListN.{length, drop_of_length-le, length-drop}
 use Rattle.json_text.specs.Grammar.Text.{text}
@@ -14,12 +15,11 @@ pub value-requires : goal.value-requires
 value-requires c = omega (arith, c.requires.within)
 
 pub skip_ws-q-requires : goal.skip_ws-q-requires
-skip_ws-q-requires c = let v = said_past c.value.ensures c.p-1.given.1 in v.0
+skip_ws-q-requires c = let v = said_past c.in-Past.ensures refl in v.0
 
 pub returns-then-q-s : goal.returns-then-q-s
 returns-then-q-s c =
-    let v = said_past c.value.ensures
-    c.p-1.given.1 in
+    let v = said_past c.in-Past.ensures refl in
     let w = c.skip_ws-q.ensures in
     let e = drop_of_length-le
     c.args.s.now {i = c.skip_ws-q.result}
@@ -33,8 +33,7 @@ returns-then-q-s c =
 
 pub returns-in-Past : goal.returns-in-Past
 returns-in-Past c =
-    let v = said_past c.value.ensures
-    c.p-1.given.1 in
+    let v = said_past c.in-Past.ensures refl in
     let w = c.skip_ws-q.ensures in
     says_broke w.within
     (text_after c.requires.run v.1.1 v.1.2 v.1.3
@@ -42,12 +41,12 @@ returns-in-Past c =
 
 pub returns-in-Broke : goal.returns-in-Broke
 returns-in-Broke c =
-    let e = said_broke c.value.ensures c.p-in-Broke-1.given.1 in
+    let e = said_broke c.in-Broke.ensures refl in
     let w = c.requires in
     says_broke e.0 (text_in w.run w.stop e.1)
 
 pub returns-in-Deep : goal.returns-in-Deep
 returns-in-Deep c =
-    let e = said_deep c.value.ensures c.p-in-Deep-1.given.1 in
+    let e = said_deep c.in-Deep.ensures refl in
     let w = c.requires in
     says_deep e.0 (text_in w.run w.stop e.1)
