@@ -1,15 +1,12 @@
 -- `json::depth` meets its contract. The loop's invariant: the first byte past the levels, counted from `i` on.
 -- Assumes nothing.
-use Prim.Native.Nat.{◌+◌, ◌-◌, ◌≤◌, ◌<◌}
+use Prim.Native.Nat.{◌<◌}
 use native.Mathlib.Omega.{arith}
-use mathlib.Core.Path.{◌≡◌}
 use borrow.Author.Tests.{ltb-true}
 use Rattle.laws.proofs.Tests.{and-true}
-use lib.ListN.{length, drop, get_or}
+use lib.ListN.{get_or}
 use lib.Dec.{eqb, ltb}
 use mathlib.Core.Bool.{◌||◌}
-use Rattle.json_text.specs.Depth.Mode.{outside}
-use Rattle.json_text.specs.Depth.{to_pass}
 use Rattle.json_text.proofs.Counts.{string_turn, string_end, open_turn, open_stop, close_turn, rest_turn, within}
 use Rattle.json_text.proofs.Counts.{passes}
 use Rattle.json_text.proofs.depth.Goals as goal

@@ -1,15 +1,8 @@
-use Prim.Native.Nat.{◌+◌, ◌-◌, ◌≤◌, ◌<◌}
-use native.Mathlib.Omega.{arith}
+use Prim.Native.Nat.{◌+◌, ◌-◌, ◌≤◌}
 use mathlib.Core.Path.{◌≡◌}
-use borrow.Author.Tests.{ltb-true}
-use Rattle.laws.proofs.Tests.{and-true}
-use lib.ListN.{length, drop, get_or}
-use lib.Dec.{eqb, ltb}
-use mathlib.Core.Bool.{◌||◌}
+use lib.ListN.{length, drop}
 use Rattle.json_text.specs.Depth.Mode.{outside}
 use Rattle.json_text.specs.Depth.{to_pass}
-use Rattle.json_text.proofs.Counts.{string_turn, string_end, open_turn, open_stop, close_turn, rest_turn, within}
-use Rattle.json_text.proofs.Counts.{passes}
 use Rattle.json_text.proofs.depth.Given as goal
 
 abbrev pub invariant-loop-i : goal.invariant-loop-i

@@ -1,6 +1,5 @@
 -- `json::scan` meets its contract.
 -- Assumes nothing.
-use borrow.Author.Rules.{rules}
 use native.Mathlib.Omega.{arith}
 use mathlib.Core.Path.{sym, ap, ◌∙◌, refl}
 use Rattle.json_text.specs.declared.answer.Scan.TheVariants.{Broke}

@@ -5,7 +5,6 @@ use Rattle.json_text.specs.Faults.ExpTo.{to_exp_none, to_exp_plain, to_exp_signe
 use Rattle.json_text.specs.Faults.NoExp.{exp_in, exp_in_signed}
 use Rattle.json_text.specs.Scans.Says.{says_past}
 use Rattle.json_text.proofs.Laws.{here, not_here, says_as, e_byte, sign_byte}
-use borrow.Author.Rules.{rules}
 use Rattle.json_text.proofs.number.exponent.Goals as goal
 
 pub peek-requires-then-is_e : goal.peek-requires-then-is_e

@@ -8,7 +8,6 @@ use Rattle.json_text.specs.Faults.MagnitudeTo.{to_magnitude}
 use Rattle.json_text.specs.Faults.NoMagnitude.{mag_bad, mag_in_tail}
 use Rattle.json_text.specs.Scans.Says.{says_broke}
 use Rattle.json_text.proofs.Laws.{byte, here, not_here, says_as}
-use borrow.Author.Rules.{rules}
 use Rattle.json_text.proofs.number.magnitude.Goals as goal
 
 pub tail-requires : goal.tail-requires

@@ -6,7 +6,6 @@ use Rattle.json_text.specs.Faults.SomeTo.{to_some}
 use Rattle.json_text.specs.Faults.NoSome.{some_bad}
 use Rattle.json_text.specs.Scans.Says.{says_past, says_broke}
 use Rattle.json_text.proofs.Laws.{here, not_here}
-use borrow.Author.Rules.{rules}
 use Rattle.json_text.proofs.number.some.Goals as goal
 
 pub digits-requires : goal.digits-requires

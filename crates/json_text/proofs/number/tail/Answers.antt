@@ -7,7 +7,6 @@ use Rattle.json_text.specs.Faults.TailTo.{to_tail}
 use Rattle.json_text.specs.Faults.NoTail.{tail_in_frac, tail_in_exp}
 use Rattle.json_text.specs.Scans.Says.{says_broke, says_deep}
 use Rattle.json_text.proofs.Laws.{byte, peeked_not, is_same, says_as, said_past, said_broke, said_deep}
-use borrow.Author.Rules.{rules}
 use Rattle.json_text.proofs.number.tail.Goals as goal
 
 pub some-requires : goal.some-requires

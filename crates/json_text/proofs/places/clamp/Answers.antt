@@ -2,7 +2,6 @@
 -- Assumes nothing.
 use native.Mathlib.Omega.{arith}
 use lib.ListN.{length, drop_of_length-le}
-use borrow.Author.Rules.{rules}
 use Rattle.json_text.proofs.places.clamp.Goals as goal
 
 pub returns-else-at-s : goal.returns-else-at-s

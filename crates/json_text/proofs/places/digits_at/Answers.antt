@@ -1,7 +1,6 @@
 -- `json::places::digits_at` meets its contract.
 -- Assumes nothing.
 use Rattle.json_text.proofs.Ends.{digits_is}
-use borrow.Author.Rules.{rules}
 use Rattle.json_text.proofs.places.digits_at.Goals as goal
 
 pub returns : goal.returns

@@ -1,7 +1,6 @@
 -- `json::places::literal_at` meets its contract.
 -- Assumes nothing.
 use Rattle.json_text.proofs.Ends.{literal_is}
-use borrow.Author.Rules.{rules}
 use Rattle.json_text.proofs.places.literal_at.Goals as goal
 
 pub returns : goal.returns

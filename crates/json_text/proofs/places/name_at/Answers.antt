@@ -1,7 +1,6 @@
 -- `json::places::name_at` meets its contract.
 -- Assumes nothing.
 use Rattle.json_text.proofs.Ends.{name_is}
-use borrow.Author.Rules.{rules}
 use Rattle.json_text.proofs.places.name_at.Goals as goal
 
 pub returns : goal.returns

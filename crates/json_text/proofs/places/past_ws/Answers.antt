@@ -2,7 +2,6 @@
 -- Assumes nothing.
 use mathlib.Core.Path.{sym}
 use Rattle.json_text.proofs.Answers.{position, past}
-use borrow.Author.Rules.{rules}
 use Rattle.json_text.proofs.places.past_ws.Goals as goal
 
 pub returns : goal.returns

@@ -1,7 +1,6 @@
 -- `json::places::value_at` meets its contract.
 -- Assumes nothing.
 use Rattle.json_text.proofs.Ends.{value_is}
-use borrow.Author.Rules.{rules}
 use Rattle.json_text.proofs.places.value_at.Goals as goal
 
 pub returns : goal.returns

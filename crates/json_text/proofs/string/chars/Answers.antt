@@ -1,12 +1,11 @@
 -- `json::string::chars` meets its contract. The loop's invariant: an answer for the rest of the string from `i` on is
 -- one from `at` on.
 -- Assumes nothing.
-use Prim.Native.Nat.{ℕ, ◌≤◌, ◌-◌, ◌+◌}
+use Prim.Native.Nat.{ℕ, ◌+◌}
 use native.Mathlib.Omega.{arith}
 use mathlib.Core.Path.{◌≡◌, refl}
 use mathlib.Core.List.{List}
-use borrow.Author.Rules.{rules}
-use lib.ListN.{length, drop}
+use lib.ListN.{drop}
 use Rattle.json_text.specs.declared.answer.Scan.{Scan}
 use Rattle.json_text.specs.Grammar.{Plain, Escape}
 use Rattle.json_text.specs.Grammar.Chars.{chars_close, chars_plain, chars_escape}

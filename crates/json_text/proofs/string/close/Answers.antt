@@ -1,13 +1,7 @@
 -- `json::string::close` meets its contract. The loop's invariant: the end from `at` on is the end from `i` on.
 -- Assumes nothing.
-use Prim.Native.Nat.{◌+◌, ◌-◌, ◌≤◌}
 use native.Mathlib.Omega.{arith}
-use mathlib.Core.Path.{◌≡◌}
-use mathlib.Core.Bool.{false}
-use lib.ListN.{length, drop}
-use Rattle.json_text.specs.Strings.{to_close}
 use Rattle.json_text.proofs.Marks.{close_here, close_plain, close_hide, close_last, close_end}
-use borrow.Author.Rules.{rules}
 use Rattle.json_text.proofs.string.close.Goals as goal
 
 pub returns-then-b-eq34 : goal.returns-then-b-eq34

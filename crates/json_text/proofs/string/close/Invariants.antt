@@ -1,11 +1,8 @@
-use Prim.Native.Nat.{◌+◌, ◌-◌, ◌≤◌}
-use native.Mathlib.Omega.{arith}
+use Prim.Native.Nat.{◌+◌, ◌-◌}
 use mathlib.Core.Path.{◌≡◌}
 use mathlib.Core.Bool.{false}
 use lib.ListN.{length, drop}
 use Rattle.json_text.specs.Strings.{to_close}
-use Rattle.json_text.proofs.Marks.{close_here, close_plain, close_hide, close_last, close_end}
-use borrow.Author.Rules.{rules}
 use Rattle.json_text.proofs.string.close.Given as goal
 
 abbrev pub invariant-loop-i : goal.invariant-loop-i

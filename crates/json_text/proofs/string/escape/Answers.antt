@@ -10,7 +10,6 @@ use Rattle.json_text.specs.Faults.Escapes.{escapes_byte, escapes_hex}
 use Rattle.json_text.specs.Faults.NoEscape.{esc_bad, esc_in_hex}
 use Rattle.json_text.specs.Scans.Says.{says_past, says_broke}
 use Rattle.json_text.proofs.Laws.{here, byte, untold, peeked_not, says_as, escape_byte}
-use borrow.Author.Rules.{rules}
 use Rattle.json_text.proofs.string.escape.Goals as goal
 
 pub returns-then-is_escape : goal.returns-then-is_escape

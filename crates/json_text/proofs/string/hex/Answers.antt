@@ -1,12 +1,10 @@
 -- `json::string::hex` meets its contract. The loop's invariant: an answer for the digits that are left, from `i` on,
 -- is one for all, from `at` on.
 -- Assumes nothing.
-use Prim.Native.Nat.{ℕ, suc, ◌≤◌, ◌-◌, ◌+◌}
+use Prim.Native.Nat.{ℕ, suc, ◌-◌, ◌+◌}
 use native.Mathlib.Omega.{arith}
 use mathlib.Core.Path.{◌≡◌}
 use mathlib.Core.List.{List}
-use borrow.Author.Rules.{rules}
-use lib.ListN.{length}
 use Rattle.json_text.specs.declared.answer.Scan.{Scan}
 use Rattle.json_text.specs.Grammar.{HexDigit}
 use Rattle.json_text.specs.Grammar.Hex.{hex_none, hex_more}

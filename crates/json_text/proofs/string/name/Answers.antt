@@ -6,7 +6,6 @@ use Rattle.json_text.specs.Grammar.Name.{name}
 use Rattle.json_text.specs.Faults.NoName.{name_bad, name_in, name_after}
 use Rattle.json_text.specs.Scans.Says.{says_past, says_broke, says_deep}
 use Rattle.json_text.proofs.Laws.{byte, peeked_not, is_same, said_past, said_broke, said_deep}
-use borrow.Author.Rules.{rules}
 use Rattle.json_text.proofs.string.name.Goals as goal
 
 pub chars-requires : goal.chars-requires

@@ -1,15 +1,10 @@
 -- `json::token::digits` meets its contract. The loop's invariant: digits from `i` on are digits from `at` on.
 -- Assumes nothing.
-use Prim.Native.Nat.{ℕ, ◌≤◌, ◌-◌}
 use native.Mathlib.Omega.{arith}
-use mathlib.Core.List.{List}
-use borrow.Author.Rules.{rules}
-use lib.ListN.{length, drop}
-use Rattle.json_text.specs.Grammar.{Digit, Digits}
+use Rattle.json_text.specs.Grammar.{Digit}
 use Rattle.json_text.specs.Grammar.Digits.{digits_none, digits_more}
 use Rattle.json_text.proofs.Laws.{here, not_here}
 use Rattle.json_text.proofs.token.digits.Goals as goal
-use Rattle.json_text.proofs.token.digits.Invariants.{Some}
 
 pub loop-i-init : goal.loop-i-init
 loop-i-init c = (omega arith, λ r h. h)

@@ -1,11 +1,7 @@
 use Prim.Native.Nat.{ℕ, ◌≤◌, ◌-◌}
-use native.Mathlib.Omega.{arith}
 use mathlib.Core.List.{List}
-use borrow.Author.Rules.{rules}
 use lib.ListN.{length, drop}
-use Rattle.json_text.specs.Grammar.{Digit, Digits}
-use Rattle.json_text.specs.Grammar.Digits.{digits_none, digits_more}
-use Rattle.json_text.proofs.Laws.{here, not_here}
+use Rattle.json_text.specs.Grammar.{Digits}
 use Rattle.json_text.proofs.token.digits.Given as goal
 
 abbrev pub Some : List ℕ → List ℕ → Type 0

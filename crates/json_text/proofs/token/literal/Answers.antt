@@ -1,7 +1,7 @@
 -- `json::token::literal` meets its contract. The loop's invariant: an answer for the rest of the word, from `i` on, is
 -- one for the word, from `at` on.
 -- Assumes nothing.
-use Prim.Native.Nat.{ℕ, ◌≤◌, ◌<◌, ◌-◌, ◌+◌}
+use Prim.Native.Nat.{ℕ, ◌<◌, ◌+◌}
 use native.Mathlib.Omega.{arith}
 use native.Mathlib.Numerals.{add-one}
 use mathlib.Core.Path.{◌≡◌}
@@ -30,7 +30,7 @@ pub bounds-word-k : goal.bounds-word-k
 bounds-word-k c = omega arith
 
 pub overflow_cast-word : goal.overflow_cast-word
-overflow_cast-word c = omega (arith, c.shared_slice_known-in-loop-k-1.given c.loop-k.k)
+overflow_cast-word c = omega (arith, c.type_inv.word c.loop-k.k)
 
 -- the word from `k` on
 word_at : (word : List ℕ) (k : ℕ) → k < length word → drop k word ≡ get_or word k 0 ∷ drop (k + 1) word
@@ -49,7 +49,7 @@ pub overflow_add-i : goal.overflow_add-i
 overflow_add-i c =
     let h =
     byte _ c.peek.ensures c.if-peek-word.false
-    (omega (arith, c.shared_slice_known-in-loop-k-1.given c.loop-k.k)) in
+    (omega (arith, c.type_inv.word c.loop-k.k)) in
     omega arith
 
 pub overflow_add-k : goal.overflow_add-k
@@ -63,7 +63,7 @@ loop-k-preserved c =
     let l = c.loop-k in
     let word = c.args.word.now in
     let h = byte (get_or word l.k 0) c.peek.ensures c.if-peek-word.false
-    (omega (arith, c.shared_slice_known-in-loop-k-1.given l.k)) in
+    (omega (arith, c.type_inv.word l.k)) in
     (omega arith, omega arith, λ o a. l.invariant.2 o (rw (word_at word l.k (omega arith)) (step h a)))
 
 pub returns : goal.returns

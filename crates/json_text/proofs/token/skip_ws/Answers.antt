@@ -1,11 +1,7 @@
 -- `json::token::skip_ws` meets its contract. The loop's invariant: white space from `i` on is white space from `at` on.
 -- Assumes nothing.
-use Prim.Native.Nat.{◌≤◌, ◌-◌, ℕ}
 use native.Mathlib.Omega.{arith}
-use mathlib.Core.List.{List}
-use borrow.Author.Rules.{rules}
-use lib.ListN.{length, drop}
-use Rattle.json_text.specs.Grammar.{IsWs, Ws}
+use Rattle.json_text.specs.Grammar.{IsWs}
 use Rattle.json_text.specs.Grammar.Ws.{ws_none, ws_more}
 use Rattle.json_text.proofs.Laws.{here, not_here, ws_byte}
 use Rattle.json_text.proofs.token.skip_ws.Goals as goal

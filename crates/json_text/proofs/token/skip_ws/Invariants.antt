@@ -1,11 +1,7 @@
 use Prim.Native.Nat.{◌≤◌, ◌-◌, ℕ}
-use native.Mathlib.Omega.{arith}
 use mathlib.Core.List.{List}
-use borrow.Author.Rules.{rules}
 use lib.ListN.{length, drop}
-use Rattle.json_text.specs.Grammar.{IsWs, Ws}
-use Rattle.json_text.specs.Grammar.Ws.{ws_none, ws_more}
-use Rattle.json_text.proofs.Laws.{here, not_here, ws_byte}
+use Rattle.json_text.specs.Grammar.{Ws}
 use Rattle.json_text.proofs.token.skip_ws.Given as goal
 
 abbrev pub invariant-loop-i : goal.invariant-loop-i

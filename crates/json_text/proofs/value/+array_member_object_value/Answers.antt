@@ -1,6 +1,6 @@
 -- `json_text::value::array`, `member`, `object` and `value` meet their contracts.
 -- Assumes nothing.
-use Rattle.std.proofs.Common.{◌≤◌, ◌<◌, length, ◌≡◌, ℕ, suc, ◌+◌, ◌-◌, refl, arith}
+use Rattle.std.proofs.Common.{◌≡◌, suc, ◌-◌, refl, arith}
 use Rattle.json_text.specs.Grammar.Value.{val_scalar}
 use Rattle.json_text.specs.Grammar.Member.{member as member_of}
 use Rattle.json_text.specs.Faults.NoValue.{val_in_scalar, val_deep_array, val_deep_object}

@@ -1,6 +1,6 @@
 -- The cycle of calls {array, member, object, value}. The measure is the levels left: an object calls members, which
 -- call values at the same levels. A loop's invariant: an answer for the rest from `i` on is one for the whole.
-use Rattle.std.proofs.Common.{◌≤◌, length, ℕ, ◌+◌, ◌-◌, ◌*◌}
+use Rattle.std.proofs.Common.{◌≤◌, length, ◌+◌, ◌-◌, ◌*◌}
 use Rattle.json_text.specs.declared.answer.Scan.{Scan}
 use Rattle.json_text.specs.Scans.{OpenSaid, ElementsSaid, MembersSaid}
 use Rattle.json_text.proofs.value.+array_member_object_value.Given as goal

@@ -10,7 +10,6 @@ use Rattle.json_text.specs.Faults.Is.{is}
 use Rattle.json_text.specs.Faults.Follows.{follows_ws, follows_comma, follows_close}
 use Rattle.json_text.specs.Scans.AfterSaid.{after_more, after_end, after_bad}
 use Rattle.json_text.proofs.Laws.{byte, peeked_not, is_same}
-use borrow.Author.Rules.{rules}
 use Rattle.json_text.proofs.value.after.Goals as goal
 
 pub returns-then-b-close : goal.returns-then-b-close

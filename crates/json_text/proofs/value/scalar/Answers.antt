@@ -15,7 +15,6 @@ use Rattle.json_text.specs.Faults.NoScalar.{sc_in_string}
 use Rattle.json_text.specs.Scans.Says.{says_broke}
 use Rattle.json_text.proofs.Laws.{byte, here, peeked_not, untold, says_as}
 use Rattle.json_text.specs.Numbers.{number_plain, stops}
-use borrow.Author.Rules.{rules}
 use Rattle.json_text.proofs.value.scalar.Goals as goal
 
 pub literal-requires : goal.literal-requires

@@ -8,7 +8,6 @@ use Rattle.json_text.specs.Grammar.Text.{text}
 use Rattle.json_text.specs.Faults.NoText.{text_in, text_after}
 use Rattle.json_text.specs.Scans.Says.{says_past, says_broke, says_deep}
 use Rattle.json_text.proofs.Laws.{said_past, said_broke, said_deep}
-use borrow.Author.Rules.{rules}
 use Rattle.json_text.proofs.value.text.Goals as goal
 
 pub value-requires : goal.value-requires
