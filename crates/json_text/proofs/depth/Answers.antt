@@ -33,14 +33,14 @@ pub loop-i-preserved-then-e-s : goal.loop-i-preserved-then-e-s
 loop-i-preserved-then-e-s c =
     let h =
     string_turn 32 c.loop-i.d c.args.s.now c.loop-i.i (omega arith) c.loop-i.invariant.1
-    c.close-e.result c.if-b-eq34.true c.close-e.ensures c.if-e-s.true in
+    c.close-e.result (omega arith) c.close-e.ensures c.if-e-s.true in
     (omega arith, omega arith, omega (arith, h, c.loop-i.invariant.2))
 
 pub returns-else-e-s : goal.returns-else-e-s
 returns-else-e-s c =
     let h =
     string_end 32 c.loop-i.d c.args.s.now c.loop-i.i (omega arith) c.loop-i.invariant.1
-    c.close-e.result c.if-b-eq34.true c.close-e.ensures c.if-e-s.false in
+    c.close-e.result (omega arith) c.close-e.ensures c.if-e-s.false in
     within 32 c.args.s.now (omega (arith, h, c.loop-i.invariant.2))
 
 pub returns-then-d-eq-LEVELS : goal.returns-then-d-eq-LEVELS
@@ -95,7 +95,7 @@ pub loop-i-preserved : goal.loop-i-preserved
 loop-i-preserved c =
     let h =
     rest_turn 32 c.loop-i.d c.args.s.now c.loop-i.i (omega arith) c.loop-i.invariant.1
-    c.if-b-eq34.false c.if-b.false c.if-b-d.false in
+    (λ e. omega arith) c.if-b.false c.if-b-d.false in
     (omega arith, omega arith, omega (arith, h, c.loop-i.invariant.2))
 
 pub returns : goal.returns
