@@ -3,12 +3,13 @@
 use Prim.Native.Nat.{◌+◌, ◌-◌, ◌≤◌}
 use native.Mathlib.Omega.{arith}
 use mathlib.Core.Path.{refl, sym, ◌∙◌}
-use mathlib.Core.Logic.{⊎_elim}
 use lib.ListN.{length, get_or}
 use Rattle.names.proofs.Strings.{close_in}
 use Rattle.names.proofs.Stages.{Stage, last_name, start, opened, string_stage, open_stage, open_none}
 use Rattle.names.proofs.Stages.{close_stage, rest_stage, colon_none, colon_stage, clear}
 use Rattle.names.proofs.Looks.{Looked, look_start, fits, look_skip, look_differs, look_found, look_all}
+use Rattle.names.proofs.search_names.Goals.{then-lengths-k+else-same, else-lengths-k, else-text-test}
+use Rattle.names.proofs.search_names.Goals.{then-text-test+else-b-eq34+then-b-eq58+then-earlier-test+then-lengths-k+then-same}
 use Rattle.names.proofs.search_names.Goals as goal
 
 pub text-init : goal.text-init
@@ -51,7 +52,7 @@ pub bounds-lengths-k : goal.bounds-lengths-k
 bounds-lengths-k c = omega arith
 
 pub overflow_cast-lengths : goal.overflow_cast-lengths
-overflow_cast-lengths c = omega (arith, c.slice_known-in-earlier-1.given c.earlier.k)
+overflow_cast-lengths c = omega (arith, c.type_inv.lengths c.earlier.k)
 
 pub overflow_add-pairs : goal.overflow_add-pairs
 overflow_add-pairs c = omega arith
@@ -63,10 +64,10 @@ pub bounds-starts-k : goal.bounds-starts-k
 bounds-starts-k c = omega arith
 
 pub overflow_cast-start : goal.overflow_cast-start
-overflow_cast-start c = omega (arith, c.slice_known-then-lengths-k-1.given c.earlier.k)
+overflow_cast-start c = omega (arith, c.type_inv.starts c.earlier.k)
 
 pub overflow_add-start : goal.overflow_add-start
-overflow_add-start c = omega (arith, c.slice_known-then-lengths-k-1.given c.earlier.k)
+overflow_add-start c = omega (arith, c.type_inv.starts c.earlier.k)
 
 pub same-requires : goal.same-requires
 same-requires c =
@@ -84,10 +85,12 @@ earlier-preserved c =
     let g = c.earlier.invariant.0 in
     let m = c.earlier.invariant.1 in (
       g,
-      ⊎_elim
-          (λ w. rw w.4 (look_differs g (omega arith) m (omega arith) w.0.taken (sym w.2.ensures ∙ w.3.left)))
-          (λ w. rw w.1 (look_skip g (omega arith) m (omega arith) w.0.left))
-          c.if-lengths-k.branch,
+      elim c.if-lengths-k.branch [
+        then-lengths-k+else-same w ↦
+            rw w.pairs-is
+            (look_differs g (omega arith) m (omega arith) w.if-lengths-k.true (sym w.same.ensures ∙ w.if-same.false))
+        | else-lengths-k w ↦ rw w.pairs-is (look_skip g (omega arith) m (omega arith) w.if-lengths-k.false)
+      ],
       omega arith,
     )
 
@@ -177,7 +180,7 @@ bounds-starts-top-then-b-base c =
 
 pub overflow_cast-base : goal.overflow_cast-base
 overflow_cast-base c =
-    omega (arith, c.slice_known-then-b-base-1.given (c.text.base - 1))
+    omega (arith, c.type_inv.starts (c.text.base - 1))
 
 pub text-smaller-then-b-base : goal.text-smaller-then-b-base
 text-smaller-then-b-base c = omega arith
@@ -202,12 +205,13 @@ shape_of-lengths-then-i-s c = omega arith
 
 pub returns-then-i-s : goal.returns-then-i-s
 returns-then-i-s c =
-    ⊎_elim
-    (λ w. absurd (omega (arith, w.0.left, c.if-i-s.true)))
-    (λ w. rw w.11
-    (look_found w.4.inv.0 c.if-i-s.true w.4.inv.1 w.5.taken w.3.taken w.7.taken
-    (sym w.9.ensures ∙ w.10.taken)))
-    c.text-test.branch
+    elim c.text-test.branch [
+      else-text-test w ↦ absurd (omega (arith, w.text-test.false, c.if-i-s.true))
+      | then-text-test+else-b-eq34+then-b-eq58+then-earlier-test+then-lengths-k+then-same w ↦
+          rw w.pairs-is
+          (look_found w.earlier.invariant.0 c.if-i-s.true w.earlier.invariant.1 w.earlier-test.true w.if-b-eq58.true
+          w.if-lengths-k.true (sym w.same.ensures ∙ w.if-same.true))
+    ]
 
 pub shape_of-starts-else-i-s : goal.shape_of-starts-else-i-s
 shape_of-starts-else-i-s c = omega arith
@@ -217,7 +221,8 @@ shape_of-lengths-else-i-s c = omega arith
 
 pub returns-else-i-s : goal.returns-else-i-s
 returns-else-i-s c =
-    ⊎_elim
-    (λ w. rw w.1 (clear c.text.invariant w.0.left))
-    (λ w. absurd (omega (arith, w.0.taken, c.if-i-s.false)))
-    c.text-test.branch
+    elim c.text-test.branch [
+      else-text-test w ↦ rw w.pairs-is (clear c.text.invariant w.text-test.false)
+      | then-text-test+else-b-eq34+then-b-eq58+then-earlier-test+then-lengths-k+then-same w ↦
+          absurd (omega (arith, w.text-test.true, c.if-i-s.false))
+    ]
