@@ -1,4 +1,4 @@
--- `json::depth` meets its contract. The loop's invariant: the first byte past the levels, counted from `i` on.
+-- `json_text::depth` meets its contract. The loop's invariant: the first byte past the levels, counted from `i` on.
 -- Assumes nothing.
 use Prim.Native.Nat.{◌<◌}
 use native.Mathlib.Omega.{arith}

@@ -1,4 +1,4 @@
--- `json::scan` meets its contract.
+-- `json_text::scan` meets its contract.
 -- Assumes nothing.
 use native.Mathlib.Omega.{arith}
 use mathlib.Core.Path.{sym, ap, ◌∙◌, refl}

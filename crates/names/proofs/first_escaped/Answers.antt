@@ -1,7 +1,6 @@
 -- `names::first_escaped` meets its contract.
 -- Assumes nothing.
 use mathlib.Core.Path.{sym, ◌∙◌}
-use borrow.Author.Rules.{rules}
 use Rattle.names.proofs.Calm.{plain_without}
 use Rattle.names.proofs.first_escaped.Goals as goal
 

@@ -1,6 +1,5 @@
 -- `names::first_repeat` meets its contract.
 -- Assumes nothing.
-use borrow.Author.Rules.{rules}
 use borrow.Author.Tests.{lt-ltb, le-ltb}
 use Rattle.names.specs.Names.{repeat_of}
 use Rattle.names.proofs.first_repeat.Goals as goal

@@ -5,10 +5,10 @@ use native.Mathlib.Omega.{arith}
 use mathlib.Core.Path.{◌≡◌, sym, ◌∙◌}
 use mathlib.Core.Bool.{Bool}
 use mathlib.Core.List.{List}
-use lib.ListN.{length, drop, take}
+use lib.ListN.{drop, take}
 use Rattle.names.specs.Strings.{slashed}
 use Rattle.names.proofs.Strings.{close_in}
-use Rattle.names.proofs.Passes.{Passed, start, string_passed, colon_passed, colon_holds, other_passed, plain}
+use Rattle.names.proofs.Passes.{start, string_passed, colon_passed, colon_holds, other_passed, plain}
 use Rattle.names.proofs.first_with_backslash.Goals as goal
 
 pub loop-i-init : goal.loop-i-init

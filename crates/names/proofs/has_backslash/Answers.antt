@@ -1,11 +1,8 @@
 -- `names::has_backslash` meets its contract. The loop's invariant: `Seen`.
 -- Assumes nothing.
-use Prim.Native.Nat.{◌-◌}
 use native.Mathlib.Omega.{arith}
 use mathlib.Core.Path.{refl}
-use lib.ListN.{length}
-use borrow.Author.Rules.{rules}
-use Rattle.names.proofs.Strings.{Seen, seen_turn, seen_end}
+use Rattle.names.proofs.Strings.{seen_turn, seen_end}
 use Rattle.names.proofs.has_backslash.Goals as goal
 
 pub loop-i-init : goal.loop-i-init

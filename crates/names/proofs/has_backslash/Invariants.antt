@@ -1,9 +1,6 @@
 use Prim.Native.Nat.{◌-◌}
-use native.Mathlib.Omega.{arith}
-use mathlib.Core.Path.{refl}
 use lib.ListN.{length}
-use borrow.Author.Rules.{rules}
-use Rattle.names.proofs.Strings.{Seen, seen_turn, seen_end}
+use Rattle.names.proofs.Strings.{Seen}
 use Rattle.names.proofs.has_backslash.Given as goal
 
 abbrev pub invariant-loop-i : goal.invariant-loop-i

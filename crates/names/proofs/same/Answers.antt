@@ -1,10 +1,8 @@
 -- `names::same` meets its contract. The loop's invariant: what is left decides.
 -- Assumes nothing.
-use Prim.Native.Nat.{◌+◌, ◌-◌, ◌≤◌}
+use Prim.Native.Nat.{◌+◌, ◌-◌}
 use native.Mathlib.Omega.{arith}
 use mathlib.Core.Path.{◌≡◌, sym, ◌∙◌}
-use lib.ListN.{drop, take}
-use Rattle.names.specs.Strings.{same as same_bytes}
 use Rattle.names.proofs.Strings.{same_turn, same_not, same_end}
 use Rattle.names.proofs.same.Goals as goal
 

@@ -1,9 +1,7 @@
 use Prim.Native.Nat.{◌+◌, ◌-◌, ◌≤◌}
-use native.Mathlib.Omega.{arith}
-use mathlib.Core.Path.{◌≡◌, sym, ◌∙◌}
+use mathlib.Core.Path.{◌≡◌}
 use lib.ListN.{drop, take}
 use Rattle.names.specs.Strings.{same as same_bytes}
-use Rattle.names.proofs.Strings.{same_turn, same_not, same_end}
 use Rattle.names.proofs.same.Given as goal
 
 abbrev pub invariant-loop-j : goal.invariant-loop-j

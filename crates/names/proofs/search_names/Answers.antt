@@ -1,13 +1,13 @@
 -- `names::search_names` meets its contract. The outer loop's invariant: `Stage`; the inner one's: `Looked`.
 -- Assumes nothing.
-use Prim.Native.Nat.{◌+◌, ◌-◌, ◌≤◌}
+use Prim.Native.Nat.{◌+◌, ◌-◌}
 use native.Mathlib.Omega.{arith}
 use mathlib.Core.Path.{refl, sym, ◌∙◌}
-use lib.ListN.{length, get_or}
+use lib.ListN.{get_or}
 use Rattle.names.proofs.Strings.{close_in}
-use Rattle.names.proofs.Stages.{Stage, last_name, start, opened, string_stage, open_stage, open_none}
+use Rattle.names.proofs.Stages.{start, opened, string_stage, open_stage, open_none}
 use Rattle.names.proofs.Stages.{close_stage, rest_stage, colon_none, colon_stage, clear}
-use Rattle.names.proofs.Looks.{Looked, look_start, fits, look_skip, look_differs, look_found, look_all}
+use Rattle.names.proofs.Looks.{look_start, fits, look_skip, look_differs, look_found, look_all}
 use Rattle.names.proofs.search_names.Goals.{then-lengths-k+else-same, else-lengths-k, else-text-test}
 use Rattle.names.proofs.search_names.Goals.{then-text-test+else-b-eq34+then-b-eq58+then-earlier-test+then-lengths-k+then-same}
 use Rattle.names.proofs.search_names.Goals as goal
@@ -86,7 +86,7 @@ earlier-preserved c =
     let m = c.earlier.invariant.1 in (
       g,
       elim c.if-lengths-k.branch [
-        then-lengths-k+else-same w ↦
+        | then-lengths-k+else-same w ↦
             rw w.pairs-is
             (look_differs g (omega arith) m (omega arith) w.if-lengths-k.true (sym w.same.ensures ∙ w.if-same.false))
         | else-lengths-k w ↦ rw w.pairs-is (look_skip g (omega arith) m (omega arith) w.if-lengths-k.false)
@@ -206,7 +206,7 @@ shape_of-lengths-then-i-s c = omega arith
 pub returns-then-i-s : goal.returns-then-i-s
 returns-then-i-s c =
     elim c.text-test.branch [
-      else-text-test w ↦ absurd (omega (arith, w.text-test.false, c.if-i-s.true))
+      | else-text-test w ↦ absurd (omega (arith, w.text-test.false, c.if-i-s.true))
       | then-text-test+else-b-eq34+then-b-eq58+then-earlier-test+then-lengths-k+then-same w ↦
           rw w.pairs-is
           (look_found w.earlier.invariant.0 c.if-i-s.true w.earlier.invariant.1 w.earlier-test.true w.if-b-eq58.true
@@ -222,7 +222,7 @@ shape_of-lengths-else-i-s c = omega arith
 pub returns-else-i-s : goal.returns-else-i-s
 returns-else-i-s c =
     elim c.text-test.branch [
-      else-text-test w ↦ rw w.pairs-is (clear c.text.invariant w.text-test.false)
+      | else-text-test w ↦ rw w.pairs-is (clear c.text.invariant w.text-test.false)
       | then-text-test+else-b-eq34+then-b-eq58+then-earlier-test+then-lengths-k+then-same w ↦
           absurd (omega (arith, w.text-test.true, c.if-i-s.false))
     ]

@@ -1,12 +1,7 @@
-use Prim.Native.Nat.{◌+◌, ◌-◌, ◌≤◌}
-use native.Mathlib.Omega.{arith}
-use mathlib.Core.Path.{refl, sym, ◌∙◌}
-use mathlib.Core.Logic.{⊎_elim}
-use lib.ListN.{length, get_or}
-use Rattle.names.proofs.Strings.{close_in}
-use Rattle.names.proofs.Stages.{Stage, last_name, start, opened, string_stage, open_stage, open_none}
-use Rattle.names.proofs.Stages.{close_stage, rest_stage, colon_none, colon_stage, clear}
-use Rattle.names.proofs.Looks.{Looked, look_start, fits, look_skip, look_differs, look_found, look_all}
+use Prim.Native.Nat.{◌-◌, ◌≤◌}
+use lib.ListN.{length}
+use Rattle.names.proofs.Stages.{Stage, last_name}
+use Rattle.names.proofs.Looks.{Looked}
 use Rattle.names.proofs.search_names.Given as goal
 
 abbrev pub invariant-earlier : goal.invariant-earlier

@@ -1,4 +1,4 @@
--- `json::bytes::is_digit` meets its contract.
+-- `json_text::bytes::is_digit` meets its contract.
 -- Assumes nothing.
 use Rattle.json_text.proofs.Questions.{at_most, both}
 use Rattle.json_text.proofs.bytes.is_digit.Goals as goal

@@ -1,4 +1,4 @@
--- `json::bytes::is_e` meets its contract.
+-- `json_text::bytes::is_e` meets its contract.
 -- Assumes nothing.
 use Rattle.json_text.specs.Grammar.IsE.{small, capital}
 use Rattle.json_text.specs.Parse.{no_e}

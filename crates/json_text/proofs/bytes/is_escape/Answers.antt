@@ -1,4 +1,4 @@
--- `json::bytes::is_escape` meets its contract.
+-- `json_text::bytes::is_escape` meets its contract.
 -- Assumes nothing.
 use Rattle.json_text.specs.Grammar.IsEscape.{quote, backslash, slash, backspace, feed, newline, carriage, tabulator}
 use Rattle.json_text.specs.Parse.{no_escape}

@@ -1,4 +1,4 @@
--- `json::bytes::is_hex` meets its contract.
+-- `json_text::bytes::is_hex` meets its contract.
 -- Assumes nothing.
 use Prim.Native.Nat.{ℕ, ◌≤◌}
 use mathlib.Core.Logic.{◌⊎◌, inl, inr}

@@ -1,4 +1,4 @@
--- `json::bytes::is_plain` meets its contract.
+-- `json_text::bytes::is_plain` meets its contract.
 -- Assumes nothing.
 use mathlib.Core.Path.{refl}
 use Rattle.json_text.proofs.bytes.is_plain.Goals as goal

@@ -1,4 +1,4 @@
--- `json::bytes::is_sign` meets its contract.
+-- `json_text::bytes::is_sign` meets its contract.
 -- Assumes nothing.
 use Rattle.json_text.specs.Grammar.IsSign.{plus, minus}
 use Rattle.json_text.specs.Parse.{no_sign}

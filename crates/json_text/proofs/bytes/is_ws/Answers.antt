@@ -1,4 +1,4 @@
--- `json::bytes::is_ws` meets its contract.
+-- `json_text::bytes::is_ws` meets its contract.
 -- Assumes nothing.
 use Rattle.json_text.specs.Grammar.IsWs.{space, tab, line, return}
 use Rattle.json_text.specs.Parse.{no_ws}

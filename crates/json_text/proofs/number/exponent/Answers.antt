@@ -1,4 +1,4 @@
--- `json::number::exponent` meets its contract.
+-- `json_text::number::exponent` meets its contract.
 -- Assumes nothing.
 use Rattle.json_text.specs.Grammar.{IsE, IsSign}
 use Rattle.json_text.specs.Faults.ExpTo.{to_exp_none, to_exp_plain, to_exp_signed}

@@ -1,4 +1,4 @@
--- `json::number::magnitude` meets its contract.
+-- `json_text::number::magnitude` meets its contract.
 -- Assumes nothing.
 use native.Mathlib.Omega.{arith}
 use Prim.Native.Nat.{◌≤◌}

@@ -1,4 +1,4 @@
--- `json::number::some` meets its contract.
+-- `json_text::number::some` meets its contract.
 -- Assumes nothing.
 use native.Mathlib.Omega.{arith}
 use Rattle.json_text.specs.Grammar.{Digit}

@@ -1,4 +1,4 @@
--- `json::number::tail` meets its contract.
+-- `json_text::number::tail` meets its contract.
 -- Assumes nothing.
 use native.Mathlib.Omega.{arith}
 use mathlib.Core.Path.{refl}

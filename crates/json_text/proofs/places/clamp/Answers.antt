@@ -1,4 +1,4 @@
--- `json::places::clamp` meets its contract.
+-- `json_text::places::clamp` meets its contract.
 -- Assumes nothing.
 use native.Mathlib.Omega.{arith}
 use lib.ListN.{length, drop_of_length-le}

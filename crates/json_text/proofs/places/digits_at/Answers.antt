@@ -1,4 +1,4 @@
--- `json::places::digits_at` meets its contract.
+-- `json_text::places::digits_at` meets its contract.
 -- Assumes nothing.
 use Rattle.json_text.proofs.Ends.{digits_is}
 use Rattle.json_text.proofs.places.digits_at.Goals as goal

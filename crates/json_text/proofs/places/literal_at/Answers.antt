@@ -1,4 +1,4 @@
--- `json::places::literal_at` meets its contract.
+-- `json_text::places::literal_at` meets its contract.
 -- Assumes nothing.
 use Rattle.json_text.proofs.Ends.{literal_is}
 use Rattle.json_text.proofs.places.literal_at.Goals as goal

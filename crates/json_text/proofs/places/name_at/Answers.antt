@@ -1,4 +1,4 @@
--- `json::places::name_at` meets its contract.
+-- `json_text::places::name_at` meets its contract.
 -- Assumes nothing.
 use Rattle.json_text.proofs.Ends.{name_is}
 use Rattle.json_text.proofs.places.name_at.Goals as goal

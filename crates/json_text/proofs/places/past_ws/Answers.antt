@@ -1,4 +1,4 @@
--- `json::places::past_ws` meets its contract.
+-- `json_text::places::past_ws` meets its contract.
 -- Assumes nothing.
 use mathlib.Core.Path.{sym}
 use Rattle.json_text.proofs.Answers.{position, past}

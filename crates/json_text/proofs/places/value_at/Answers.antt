@@ -1,4 +1,4 @@
--- `json::places::value_at` meets its contract.
+-- `json_text::places::value_at` meets its contract.
 -- Assumes nothing.
 use Rattle.json_text.proofs.Ends.{value_is}
 use Rattle.json_text.proofs.places.value_at.Goals as goal

@@ -1,4 +1,4 @@
--- `json::string::chars` meets its contract. The loop's invariant: an answer for the rest of the string from `i` on is
+-- `json_text::string::chars` meets its contract. The loop's invariant: an answer for the rest of the string from `i` on is
 -- one from `at` on.
 -- Assumes nothing.
 use Prim.Native.Nat.{ℕ, ◌+◌}

@@ -1,4 +1,4 @@
--- `json::string::close` meets its contract. The loop's invariant: the end from `at` on is the end from `i` on.
+-- `json_text::string::close` meets its contract. The loop's invariant: the end from `at` on is the end from `i` on.
 -- Assumes nothing.
 use native.Mathlib.Omega.{arith}
 use Rattle.json_text.proofs.Marks.{close_here, close_plain, close_hide, close_last, close_end}

@@ -1,4 +1,4 @@
--- `json::string::escape` meets its contract.
+-- `json_text::string::escape` meets its contract.
 -- Assumes nothing.
 use native.Mathlib.Omega.{arith}
 use Prim.Native.Nat.{ℕ}

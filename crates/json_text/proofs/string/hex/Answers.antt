@@ -1,4 +1,4 @@
--- `json::string::hex` meets its contract. The loop's invariant: an answer for the digits that are left, from `i` on,
+-- `json_text::string::hex` meets its contract. The loop's invariant: an answer for the digits that are left, from `i` on,
 -- is one for all, from `at` on.
 -- Assumes nothing.
 use Prim.Native.Nat.{ℕ, suc, ◌-◌, ◌+◌}

@@ -1,4 +1,4 @@
--- `json::string::name` meets its contract.
+-- `json_text::string::name` meets its contract.
 -- Assumes nothing.
 use native.Mathlib.Omega.{arith}
 use mathlib.Core.Path.{refl}

@@ -1,4 +1,4 @@
--- `json::token::digits` meets its contract. The loop's invariant: digits from `i` on are digits from `at` on.
+-- `json_text::token::digits` meets its contract. The loop's invariant: digits from `i` on are digits from `at` on.
 -- Assumes nothing.
 use native.Mathlib.Omega.{arith}
 use Rattle.json_text.specs.Grammar.{Digit}

@@ -1,4 +1,4 @@
--- `json::token::literal` meets its contract. The loop's invariant: an answer for the rest of the word, from `i` on, is
+-- `json_text::token::literal` meets its contract. The loop's invariant: an answer for the rest of the word, from `i` on, is
 -- one for the word, from `at` on.
 -- Assumes nothing.
 use Prim.Native.Nat.{ℕ, ◌<◌, ◌+◌}

@@ -1,4 +1,4 @@
--- `json::token::peek` meets its contract.
+-- `json_text::token::peek` meets its contract.
 -- Assumes nothing.
 use Prim.Native.Nat.{◌<◌}
 use native.Mathlib.Omega.{arith}

@@ -1,4 +1,4 @@
--- `json::token::skip_ws` meets its contract. The loop's invariant: white space from `i` on is white space from `at` on.
+-- `json_text::token::skip_ws` meets its contract. The loop's invariant: white space from `i` on is white space from `at` on.
 -- Assumes nothing.
 use native.Mathlib.Omega.{arith}
 use Rattle.json_text.specs.Grammar.{IsWs}

@@ -1,4 +1,4 @@
--- `json::value::after` meets its contract.
+-- `json_text::value::after` meets its contract.
 -- Assumes nothing.
 use native.Mathlib.Omega.{arith}
 use Prim.Native.Nat.{ℕ}

@@ -1,4 +1,4 @@
--- `json::value::scalar` meets its contract.
+-- `json_text::value::scalar` meets its contract.
 -- Assumes nothing.
 use native.Mathlib.Omega.{arith}
 use Prim.Native.Nat.{ℕ}

@@ -1,4 +1,4 @@
--- `json::value::text` meets its contract.
+-- `json_text::value::text` meets its contract.
 -- Assumes nothing.
 use native.Mathlib.Omega.{arith}
 use mathlib.Core.Path.{refl}
