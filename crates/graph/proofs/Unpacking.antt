@@ -19,7 +19,7 @@ use Rattle.graph.specs.Packing.{list_at, packed_lists, misplaced, packed_fault_o
 pub length-starts : (at : ℕ) (lists : List (List ℕ)) → length (starts_from at lists) ≡ length lists
 unfolding starts_from
 length-starts at [] = refl
-length-starts at (list ∷ lists) = ap suc (length-starts _ lists)
+length-starts at (list ∷ lists) = ap suc (length-starts (at + length list) lists)
 
 -- a length for each list
 pub length-lengths : (lists : List (List ℕ)) → length (lengths_of lists) ≡ length lists

@@ -1,0 +1,29 @@
+-- `graph::packed::children_past` meets its contract. Assumes nothing.
+use mathlib.Core.Path.{refl, ◌∙◌}
+use native.Mathlib.Omega.{arith}
+use borrow.Author.Rules.{rules}
+use lib.ListN.{length}
+use Rattle.graph.specs.Stream.{children_past, children_parents}
+use Rattle.graph.proofs.Placing.{placed, length-packed}
+use Rattle.graph.proofs.packed.children_past.Goals as goal
+
+pub overflow_cast-count : goal.overflow_cast-count
+overflow_cast-count c = omega (arith, (placed c.requires).fits)
+
+pub link_lists-requires : goal.link_lists-requires
+link_lists-requires c =
+    rw c.fill.auto.list c.requires
+
+pub shape_of-parents : goal.shape_of-parents
+shape_of-parents c = c.link_lists.auto.parents ∙ c.fill.auto.list
+
+pub returns : goal.returns
+unfolding children_past children_parents
+returns c =
+    let filled = c.fill in
+    let a = c.args in
+    let called = c.link_lists in
+    let counted = length-packed a.starts.now a.lengths.now a.children.now (length a.parents.now) in (
+      called.ensures.0 ∙ rw (filled.auto.list, counted) refl,
+      called.ensures.1 ∙ rw (filled.auto.list, counted, filled.ensures) refl,
+    )

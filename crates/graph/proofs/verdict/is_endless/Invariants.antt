@@ -1,0 +1,17 @@
+use Prim.Native.Nat.{◌≤◌, ◌-◌}
+use mathlib.Core.Path.{◌≡◌, refl, sym, ap, ◌∙◌}
+use native.Mathlib.Numerals.{add-one}
+use native.Mathlib.Omega.{arith}
+use borrow.Author.Rules.{rules}
+use borrow.Author.Tests.{le-ltb}
+use lib.ListN.{length, get_or-eq_default}
+use Rattle.graph.specs.Graph.{climb}
+use Rattle.graph.specs.Stream.{up_in, endless_in}
+use Rattle.graph.proofs.Climb.{later}
+use Rattle.graph.proofs.verdict.is_endless.Given as goal
+
+abbrev pub invariant-loop-k : goal.invariant-loop-k
+invariant-loop-k l = (l.k ≤ length l.parents) × (l.at ≡ climb (up_in l.parents) l.k l.x)
+
+abbrev pub decreases-loop-k : goal.decreases-loop-k
+decreases-loop-k l = length l.parents - l.k
