@@ -1,7 +1,6 @@
 -- `graph::lists::entry` meets its contract. Assumes nothing.
 use mathlib.Core.Path.{sym}
 use native.Mathlib.Omega.{arith}
-use borrow.Author.Rules.{rules}
 use lib.ListN.{get_or-eq_default}
 use Rattle.laws.proofs.Lists.{get_or_any}
 use Rattle.graph.proofs.lists.entry.Goals as goal

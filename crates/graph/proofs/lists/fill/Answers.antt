@@ -1,10 +1,9 @@
 -- `graph::lists::fill` meets its contract. Assumes nothing.
-use Prim.Native.Nat.{◌≤◌, ◌-◌}
-use mathlib.Core.List.{append-nil, ◌++◌}
+use mathlib.Core.List.{append-nil}
 use mathlib.Core.Path.{refl, ◌∙◌, ◌≡◌}
 use native.Mathlib.Omega.{arith}
 use borrow.Author.Fill.{fill_none, fill_more}
-use lib.ListN.{length-set, length, replicate, drop}
+use lib.ListN.{length-set, length}
 use lib.Seq.{drop-length}
 use Rattle.graph.proofs.lists.fill.Goals as goal
 

@@ -1,7 +1,6 @@
 -- `graph::packed::children_past` meets its contract. Assumes nothing.
 use mathlib.Core.Path.{refl, ◌∙◌}
 use native.Mathlib.Omega.{arith}
-use borrow.Author.Rules.{rules}
 use lib.ListN.{length}
 use Rattle.graph.specs.Stream.{children_past, children_parents}
 use Rattle.graph.proofs.Placing.{placed, length-packed}

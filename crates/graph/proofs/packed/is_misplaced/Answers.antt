@@ -1,15 +1,11 @@
 -- `graph::packed::is_misplaced` meets its contract. Assumes nothing.
-use Prim.Native.Nat.{ℕ, ◌+◌, ◌≤◌, ◌<◌, ◌-◌}
-use mathlib.Core.Bool.{false}
 use mathlib.Core.Path.{◌≡◌, sym}
 use native.Mathlib.Omega.{arith}
 use borrow.Author.Count.{below_none, below_more}
 use borrow.Author.Tests.{le-ltb}
-use lib.Dec.{ltb}
-use lib.ListN.{length, get_or}
 use Rattle.laws.proofs.Search.{any_none}
 use Rattle.graph.specs.Packing.{misplaced}
-use Rattle.graph.proofs.Placing.{outside, Room, room}
+use Rattle.graph.proofs.Placing.{outside, room}
 use Rattle.graph.proofs.packed.is_misplaced.Goals as goal
 
 pub returns-then-capacity-count : goal.returns-then-capacity-count

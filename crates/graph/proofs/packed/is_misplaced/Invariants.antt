@@ -1,14 +1,9 @@
 use Prim.Native.Nat.{ℕ, ◌+◌, ◌≤◌, ◌<◌, ◌-◌}
 use mathlib.Core.Bool.{false}
-use mathlib.Core.Path.{◌≡◌, sym}
-use native.Mathlib.Omega.{arith}
-use borrow.Author.Count.{below_none, below_more}
-use borrow.Author.Tests.{le-ltb}
+use mathlib.Core.Path.{◌≡◌}
 use lib.Dec.{ltb}
 use lib.ListN.{length, get_or}
-use Rattle.laws.proofs.Search.{any_none}
-use Rattle.graph.specs.Packing.{misplaced}
-use Rattle.graph.proofs.Placing.{outside, Room, room}
+use Rattle.graph.proofs.Placing.{Room}
 use Rattle.graph.proofs.packed.is_misplaced.Given as goal
 
 abbrev pub invariant-loop-i : goal.invariant-loop-i

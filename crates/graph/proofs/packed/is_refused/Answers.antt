@@ -1,7 +1,6 @@
 -- `graph::packed::is_refused` meets its contract. Assumes nothing.
 use mathlib.Core.Bool.{not}
 use mathlib.Core.Path.{ap}
-use borrow.Author.Rules.{rules}
 use lib.Dec.{eqb}
 use Rattle.graph.specs.Packing.{packed_refused}
 use Rattle.graph.specs.declared.verdict.Fault.{Fault}

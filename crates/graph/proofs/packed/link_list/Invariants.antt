@@ -1,11 +1,7 @@
-use Prim.Native.Nat.{◌≤◌, ◌<◌, ◌-◌}
-use mathlib.Core.Path.{◌≡◌, refl, ◌∙◌}
-use native.Mathlib.Omega.{arith}
-use borrow.Author.Rules.{rules}
+use Prim.Native.Nat.{◌≤◌, ◌-◌}
+use mathlib.Core.Path.{◌≡◌}
 use lib.ListN.{length, take}
-use lib.Seq.{take-length}
 use Rattle.graph.specs.Stream.{feed, link_past, link_parents}
-use Rattle.graph.proofs.Feeding.{feed_next}
 use Rattle.graph.proofs.packed.link_list.Given as goal
 
 abbrev pub invariant-loop-j : goal.invariant-loop-j

@@ -1,12 +1,10 @@
 -- `graph::packed::link_lists` meets its contract. Assumes nothing.
-use Prim.Native.Nat.{◌≤◌, ◌-◌}
 use mathlib.Core.Path.{◌≡◌, refl, ◌∙◌}
 use native.Mathlib.Omega.{arith}
-use borrow.Author.Rules.{rules}
 use lib.ListN.{length}
 use Rattle.graph.specs.Packing.{packed_lists}
 use Rattle.graph.specs.Stream.{feed_all, link_past, link_parents}
-use Rattle.graph.proofs.Placing.{Placed, placed, packed_next}
+use Rattle.graph.proofs.Placing.{placed, packed_next}
 use Rattle.graph.proofs.packed.link_lists.Goals as goal
 
 pub overflow_cast-past : goal.overflow_cast-past

@@ -1,11 +1,9 @@
 use Prim.Native.Nat.{◌≤◌, ◌-◌}
-use mathlib.Core.Path.{◌≡◌, refl, ◌∙◌}
-use native.Mathlib.Omega.{arith}
-use borrow.Author.Rules.{rules}
+use mathlib.Core.Path.{◌≡◌}
 use lib.ListN.{length}
 use Rattle.graph.specs.Packing.{packed_lists}
 use Rattle.graph.specs.Stream.{feed_all, link_past, link_parents}
-use Rattle.graph.proofs.Placing.{Placed, placed, packed_next}
+use Rattle.graph.proofs.Placing.{Placed}
 use Rattle.graph.proofs.packed.link_lists.Given as goal
 
 abbrev pub invariant-loop-i : goal.invariant-loop-i

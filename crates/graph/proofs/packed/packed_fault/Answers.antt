@@ -2,7 +2,6 @@
 use Prim.Native.Nat.{ℕ}
 use mathlib.Core.Bool.{false}
 use mathlib.Core.Path.{◌≡◌, refl, sym, ◌∙◌}
-use borrow.Author.Rules.{rules}
 use lib.ListN.{length, take, replicate}
 use Rattle.graph.specs.Packing.{misplaced, packed_fault_of}
 use Rattle.graph.proofs.Placing.{placed, taken}

@@ -1,7 +1,6 @@
 -- `graph::packed::placed_fault` meets its contract. Assumes nothing.
 use mathlib.Core.Path.{sym, ◌∙◌}
 use native.Mathlib.Omega.{arith}
-use borrow.Author.Rules.{rules}
 use lib.ListN.{length}
 use Rattle.graph.specs.Packing.{packed_lists}
 use Rattle.graph.proofs.Placing.{placed, length-packed}

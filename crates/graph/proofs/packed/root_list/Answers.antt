@@ -1,9 +1,7 @@
 -- `graph::packed::root_list` meets its contract. Assumes nothing.
-use Prim.Native.Nat.{◌≤◌, ◌-◌}
 use mathlib.Core.Path.{◌≡◌, refl, sym, ap, ◌∙◌}
 use native.Mathlib.Omega.{arith}
-use borrow.Author.Rules.{rules}
-use lib.ListN.{length, get_or, take}
+use lib.ListN.{length, get_or}
 use lib.Seq.{take-length}
 use Rattle.graph.specs.Stream.{feed, root_step, marked, Marked}
 use Rattle.graph.proofs.Feeding.{feed_next}

@@ -1,11 +1,7 @@
 use Prim.Native.Nat.{◌≤◌, ◌-◌}
-use mathlib.Core.Path.{◌≡◌, refl, sym, ap, ◌∙◌}
-use native.Mathlib.Omega.{arith}
-use borrow.Author.Rules.{rules}
-use lib.ListN.{length, get_or, take}
-use lib.Seq.{take-length}
-use Rattle.graph.specs.Stream.{feed, root_step, marked, Marked}
-use Rattle.graph.proofs.Feeding.{feed_next}
+use mathlib.Core.Path.{◌≡◌}
+use lib.ListN.{length, take}
+use Rattle.graph.specs.Stream.{feed, root_step, marked}
 use Rattle.graph.proofs.packed.root_list.Given as goal
 
 abbrev pub invariant-loop-j : goal.invariant-loop-j

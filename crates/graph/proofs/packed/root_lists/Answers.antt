@@ -1,12 +1,9 @@
 -- `graph::packed::root_lists` meets its contract. Assumes nothing.
-use Prim.Native.Nat.{◌≤◌, ◌-◌}
 use mathlib.Core.Path.{◌≡◌, refl, sym, ap, ◌∙◌}
 use native.Mathlib.Omega.{arith}
-use borrow.Author.Rules.{rules}
-use lib.ListN.{length}
 use Rattle.graph.specs.Packing.{packed_lists, list_at}
 use Rattle.graph.specs.Stream.{feed, feed_all, root_step, marked, Marked}
-use Rattle.graph.proofs.Placing.{Placed, placed, packed_next}
+use Rattle.graph.proofs.Placing.{placed, packed_next}
 use Rattle.graph.proofs.packed.root_lists.Goals as goal
 
 pub overflow_cast-none : goal.overflow_cast-none

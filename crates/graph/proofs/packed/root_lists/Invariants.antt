@@ -1,11 +1,9 @@
 use Prim.Native.Nat.{◌≤◌, ◌-◌}
-use mathlib.Core.Path.{◌≡◌, refl, sym, ap, ◌∙◌}
-use native.Mathlib.Omega.{arith}
-use borrow.Author.Rules.{rules}
+use mathlib.Core.Path.{◌≡◌}
 use lib.ListN.{length}
-use Rattle.graph.specs.Packing.{packed_lists, list_at}
-use Rattle.graph.specs.Stream.{feed, feed_all, root_step, marked, Marked}
-use Rattle.graph.proofs.Placing.{Placed, placed, packed_next}
+use Rattle.graph.specs.Packing.{packed_lists}
+use Rattle.graph.specs.Stream.{feed_all, root_step, marked}
+use Rattle.graph.proofs.Placing.{Placed}
 use Rattle.graph.proofs.packed.root_lists.Given as goal
 
 abbrev pub invariant-loop-i : goal.invariant-loop-i

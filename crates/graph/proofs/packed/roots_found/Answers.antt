@@ -1,7 +1,6 @@
 -- `graph::packed::roots_found` meets its contract. Assumes nothing.
 use mathlib.Core.Path.{refl, ◌∙◌}
 use native.Mathlib.Omega.{arith}
-use borrow.Author.Rules.{rules}
 use Rattle.graph.specs.Packing.{packed_lists}
 use Rattle.graph.proofs.Placing.{placed, length-packed}
 use Rattle.graph.proofs.Streams.{found_from}

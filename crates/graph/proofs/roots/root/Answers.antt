@@ -1,6 +1,5 @@
 -- `graph::roots::root` meets its contract. Assumes nothing.
 use mathlib.Core.Path.{refl, sym}
-use borrow.Author.Rules.{rules}
 use borrow.Author.Tests.{le-leb, lt-leb}
 use lib.Seq.{set_out}
 use Rattle.graph.specs.Stream.{earlier, root_of}
@@ -10,8 +9,7 @@ pub returns-then-n-x : goal.returns-then-n-x
 unfolding root_of
 returns-then-n-x c =
     let a = c.args in
-    let h = c.if-n-x.true in
-    (
+    let h = c.if-n-x.true in (
       rw (c.earlier_of.ensures, c.earlier_of-parented.ensures, c.entry-parent.ensures, le-leb _ _ h),
       sym (set_out a.marks.now a.node _ h),
     )

@@ -1,12 +1,9 @@
 -- `graph::verdict::first_endless` meets its contract. Assumes nothing.
-use Prim.Native.Nat.{ℕ, ◌≤◌, ◌<◌, ◌-◌}
-use mathlib.Core.Bool.{false}
-use mathlib.Core.Path.{◌≡◌, sym, ◌∙◌}
+use mathlib.Core.Path.{sym, ◌∙◌}
 use native.Mathlib.Omega.{arith}
 use borrow.Author.Count.{below_none, below_more}
-use borrow.Author.Rules.{rules}
 use lib.ListN.{length}
-use Rattle.laws.proofs.Search.{Least, least_is}
+use Rattle.laws.proofs.Search.{least_is}
 use Rattle.graph.specs.Stream.{endless_in, first_endless}
 use Rattle.graph.proofs.verdict.first_endless.Goals as goal
 

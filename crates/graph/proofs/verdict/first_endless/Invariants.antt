@@ -1,12 +1,8 @@
 use Prim.Native.Nat.{ℕ, ◌≤◌, ◌<◌, ◌-◌}
 use mathlib.Core.Bool.{false}
-use mathlib.Core.Path.{◌≡◌, sym, ◌∙◌}
-use native.Mathlib.Omega.{arith}
-use borrow.Author.Count.{below_none, below_more}
-use borrow.Author.Rules.{rules}
+use mathlib.Core.Path.{◌≡◌}
 use lib.ListN.{length}
-use Rattle.laws.proofs.Search.{Least, least_is}
-use Rattle.graph.specs.Stream.{endless_in, first_endless}
+use Rattle.graph.specs.Stream.{endless_in}
 use Rattle.graph.proofs.verdict.first_endless.Given as goal
 
 abbrev pub invariant-loop-x : goal.invariant-loop-x

@@ -1,14 +1,11 @@
 -- `graph::verdict::first_twice` meets its contract. Assumes nothing.
-use Prim.Native.Nat.{ℕ, ◌≤◌, ◌<◌, ◌-◌}
-use mathlib.Core.Bool.{false}
-use mathlib.Core.Path.{◌≡◌, sym}
+use mathlib.Core.Path.{sym}
 use native.Mathlib.Omega.{arith}
 use borrow.Author.Count.{below_none, below_more}
-use borrow.Author.Rules.{rules}
 use borrow.Author.Tests.{ne_eqb, eq-eqb}
 use lib.Dec.{eqb}
 use lib.ListN.{length, get_or}
-use Rattle.laws.proofs.Search.{Least, least_is}
+use Rattle.laws.proofs.Search.{least_is}
 use Rattle.graph.specs.Stream.{first_twice}
 use Rattle.graph.proofs.verdict.first_twice.Goals as goal
 

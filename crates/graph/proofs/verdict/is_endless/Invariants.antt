@@ -1,13 +1,8 @@
 use Prim.Native.Nat.{◌≤◌, ◌-◌}
-use mathlib.Core.Path.{◌≡◌, refl, sym, ap, ◌∙◌}
-use native.Mathlib.Numerals.{add-one}
-use native.Mathlib.Omega.{arith}
-use borrow.Author.Rules.{rules}
-use borrow.Author.Tests.{le-ltb}
-use lib.ListN.{length, get_or-eq_default}
+use mathlib.Core.Path.{◌≡◌}
+use lib.ListN.{length}
 use Rattle.graph.specs.Graph.{climb}
-use Rattle.graph.specs.Stream.{up_in, endless_in}
-use Rattle.graph.proofs.Climb.{later}
+use Rattle.graph.specs.Stream.{up_in}
 use Rattle.graph.proofs.verdict.is_endless.Given as goal
 
 abbrev pub invariant-loop-k : goal.invariant-loop-k

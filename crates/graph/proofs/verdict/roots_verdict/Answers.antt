@@ -1,5 +1,4 @@
 -- `graph::verdict::roots_verdict` meets its contract. Assumes nothing.
-use borrow.Author.Rules.{rules}
 use borrow.Author.Tests.{lt-ltb, le-ltb}
 use Rattle.graph.specs.Stream.{roots_verdict}
 use Rattle.graph.proofs.verdict.roots_verdict.Goals as goal

@@ -1,5 +1,4 @@
 -- `graph::verdict::verdict` meets its contract. Assumes nothing.
-use borrow.Author.Rules.{rules}
 use borrow.Author.Tests.{lt-ltb, le-ltb}
 use Rattle.graph.specs.Stream.{verdict_of}
 use Rattle.graph.proofs.verdict.verdict.Goals as goal
