@@ -15,9 +15,6 @@ returns-then-n-x c =
     let h : length a.parents.now ≤ a.child = omega (arith, c.if-n-x.true) in
     (c.earlier_of.ensures ∙ rw (le-leb _ _ h), sym (set_out a.parents.now a.child _ h))
 
-pub overflow_cast-parents : goal.overflow_cast-parents
-overflow_cast-parents c = omega (arith, c.slice_known-2-1.given c.args.child)
-
 pub returns-then-parents-x : goal.returns-then-parents-x
 unfolding link_past link_parents earlier
 returns-then-parents-x c = (rw (lt-leb _ _ c.if-n-x.false), rw (eq-eqb _ _ c.if-parents-x.true))

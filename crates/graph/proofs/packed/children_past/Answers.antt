@@ -9,13 +9,6 @@ use Rattle.graph.proofs.packed.children_past.Goals as goal
 pub overflow_cast-count : goal.overflow_cast-count
 overflow_cast-count c = omega (arith, (placed c.requires).fits)
 
-pub link_lists-requires : goal.link_lists-requires
-link_lists-requires c =
-    rw c.fill.auto.list c.requires
-
-pub shape_of-parents : goal.shape_of-parents
-shape_of-parents c = c.link_lists.auto.parents ∙ c.fill.auto.list
-
 pub returns : goal.returns
 unfolding children_past children_parents
 returns c =

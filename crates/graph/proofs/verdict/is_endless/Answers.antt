@@ -1,7 +1,6 @@
 -- `graph::verdict::is_endless` meets its contract. Assumes nothing.
 use Prim.Native.Nat.{◌≤◌}
-use mathlib.Core.Path.{◌≡◌, refl, sym, ap, ◌∙◌}
-use native.Mathlib.Numerals.{add-one}
+use mathlib.Core.Path.{◌≡◌, sym}
 use native.Mathlib.Omega.{arith}
 use borrow.Author.Tests.{le-ltb}
 use lib.ListN.{length, get_or-eq_default}
@@ -9,9 +8,6 @@ use Rattle.graph.specs.Graph.{climb}
 use Rattle.graph.specs.Stream.{up_in, endless_in}
 use Rattle.graph.proofs.Climb.{later}
 use Rattle.graph.proofs.verdict.is_endless.Goals as goal
-
-pub loop-k-init : goal.loop-k-init
-loop-k-init c = (omega arith, refl)
 
 pub returns-then-n-at : goal.returns-then-n-at
 unfolding endless_in
@@ -22,17 +18,6 @@ returns-then-n-at c =
     let past : length ps ≤ climb (up_in ps) l.k a.x = rw l.invariant.1 at c.if-n-at.true in
     sym (le-ltb _ _ (later (up_in ps) (length ps) a.x (λ y h. rw (get_or-eq_default ps (length ps) h) (omega arith))
     l.k (length ps) l.invariant.0 past))
-
-pub overflow_add-k : goal.overflow_add-k
-overflow_add-k c = omega arith
-
-pub loop-k-smaller : goal.loop-k-smaller
-loop-k-smaller c = omega arith
-
-pub loop-k-preserved : goal.loop-k-preserved
-loop-k-preserved c =
-    let ps = c.args.parents.now in
-    (omega arith, rw add-one (c.entry-at.ensures ∙ ap (up_in ps) c.loop-k.invariant.1))
 
 pub returns : goal.returns
 unfolding endless_in
