@@ -1,7 +1,7 @@
 -- The chunks of a list by what it starts with.
 -- Assumes nothing.
 use Prim.Native.Nat.{ℕ, zero, suc, ◌+◌, ◌-◌, ◌%◌, ◌≤◌, ◌<◌}
-use mathlib.Core.Path.{◌≡◌, refl, ap, ◌∙◌}
+use mathlib.Core.Path.{◌≡◌, refl, ap}
 use mathlib.Core.Bool.{Bool, true, false, ◌&&◌}
 use mathlib.Core.List.{List, [], ◌∷◌}
 use native.Mathlib.Omega.{arith}
@@ -12,7 +12,7 @@ use lib.Seq.{drop-nil}
 use Rattle.laws.specs.Bytes.{little_at}
 use Rattle.laws.proofs.Bytes.{little_at-drop}
 use Rattle.laws.proofs.Tests.{by_test, and-true}
-use Rattle.container.specs.Chunks.{Chunk, header_at, starts_whole, chunks_from, bytes_of}
+use Rattle.container.specs.Chunks.{Chunk, header_at, starts_whole, chunks_from}
 
 -- the bytes of the chunk before are passed over
 pub chunks_skip : (k : ℕ) (w : List ℕ) → chunks_from k w ≡ chunks_from 0 (drop k w)

@@ -1,19 +1,17 @@
 -- The verdict is the smallest rule that is broken with its smallest item, exactly; and where none is, the places are the chunks'.
 -- Assumes nothing.
-use Prim.Native.Nat.{ℕ, zero, suc, ◌+◌, ◌-◌, ◌≤◌, ◌<◌}
+use Prim.Native.Nat.{ℕ, suc, ◌+◌, ◌-◌, ◌≤◌, ◌<◌}
 use mathlib.Core.Path.{◌≡◌, refl, sym, ap, ◌∙◌, subst}
-use mathlib.Core.Bool.{Bool, true, false, cond, not, ◌&&◌, true≢false}
+use mathlib.Core.Bool.{true, false, true≢false}
 use mathlib.Core.List.{List, map}
 use native.Mathlib.Omega.{arith}
 use borrow.Author.Tests.{ltb-true, ltb-false, lt-ltb, le-ltb, eqb-true, eq-eqb, not-false}
 use lib.Dec.{ltb, eqb}
 use lib.ListN.{length, get_or, get_or-map, get_or-eq_default}
-use Rattle.laws.specs.Search.{least}
 use Rattle.laws.specs.Verdict.{Smallest}
 use Rattle.laws.proofs.Search.{Least, first_says, any_no}
 use Rattle.laws.proofs.Tests.{by_test, or_false}
 use Rattle.laws.proofs.Verdict.{smallest_unique}
-use Rattle.container.specs.declared.Container.{Container}
 use Rattle.container.specs.Chunks.{chunks_of, bytes_of}
 use Rattle.container.specs.Rules.{Row, row, rows, header_rows, chunk_rows, first_broken, chunk_at, count, misplaced_json, misplaced_bin, is_bin, refused, opened, container_of}
 use Rattle.container.specs.Meaning.{Broken, Starts, IsChunk, chunk_length_at, chunk_type_at, JSON, BIN}
@@ -22,9 +20,9 @@ use Rattle.container.specs.Meaning.Broken.{rule1_few, rule1_many, rule2, rule3, 
 use Rattle.container.specs.Exact.{Exact, Lies, DataOf}
 use Rattle.container.specs.Exact.Exact.{accepted, refused_by}
 use Rattle.container.specs.Exact.Lies.{with_bin, without_bin}
-use Rattle.container.proofs.Reached.{There, chunk_there, chunk_below, chunk_length_lem, chunk_type_lem}
+use Rattle.container.proofs.Reached.{chunk_there, chunk_below, chunk_length_lem, chunk_type_lem}
 use Rattle.container.proofs.TwoChunks.{chunks_some}
-use Rattle.container.proofs.Rows.{row_at, HoldBelow, Told, broken_told, row_broken}
+use Rattle.container.proofs.Rows.{row_at, HoldBelow, broken_told, row_broken}
 
 -- the rules are numbered from 1 to 8
 numbered : (f : List ℕ) (n i : ℕ) → Broken f n i → (0 < n) × (n ≤ 8)

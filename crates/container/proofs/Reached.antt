@@ -1,16 +1,16 @@
 -- The chunks as the paper counts them are those of `chunks_of`.
 -- Assumes nothing.
-use Prim.Native.Nat.{ℕ, zero, suc, ◌+◌, ◌-◌, ◌%◌, ◌≤◌, ◌<◌}
+use Prim.Native.Nat.{ℕ, zero, suc, ◌+◌, ◌-◌, ◌≤◌, ◌<◌}
 use mathlib.Core.Path.{◌≡◌, refl, sym, ap, ◌∙◌}
-use mathlib.Core.Bool.{true, false, true≢false}
-use mathlib.Core.List.{List, [], ◌∷◌}
+use mathlib.Core.Bool.{true, true≢false}
+use mathlib.Core.List.{List}
 use native.Mathlib.Numerals.{add-one}
 use native.Mathlib.Omega.{arith}
 use borrow.Author.Tests.{ltb-true, ltb-false, leb-true, le-leb, eqb-true, eq-eqb}
-use lib.Dec.{ltb, leb, eqb}
-use lib.ListN.{length, drop, get_or, length-drop}
+use lib.Dec.{ltb}
+use lib.ListN.{length, drop, length-drop}
 use Rattle.laws.proofs.Tests.{by_test, and-true}
-use Rattle.container.specs.Chunks.{Chunk, header_at, starts_whole, chunks_from, chunks_of, bytes_of}
+use Rattle.container.specs.Chunks.{Chunk, header_at, starts_whole, chunks_of, bytes_of}
 use Rattle.container.specs.Rules.{chunk_at, count}
 use Rattle.container.specs.Meaning.{IsChunk, Starts, chunk_length_at, chunk_type_at}
 use Rattle.container.specs.Meaning.Starts.{starts_first, starts_next}

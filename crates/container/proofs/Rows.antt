@@ -2,7 +2,7 @@
 -- is broken, where all smaller rows hold, gives the row broken with an item that is no larger.
 -- Assumes nothing.
 use Prim.Native.Nat.{ℕ, zero, suc, ◌+◌, ◌-◌, ◌≤◌, ◌<◌}
-use mathlib.Core.Path.{◌≡◌, refl, sym, ap, ◌∙◌, subst}
+use mathlib.Core.Path.{◌≡◌, sym, ap, ◌∙◌, subst}
 use mathlib.Core.Bool.{Bool, true, false, not, ◌&&◌, ◌||◌, true≢false}
 use mathlib.Core.List.{List}
 use mathlib.Core.Logic.{◌⊎◌, inl, inr, ⊎_elim}
@@ -10,15 +10,14 @@ use native.Mathlib.Omega.{arith}
 use borrow.Author.Tests.{ltb-true, ltb-false, lt-ltb, le-ltb, eqb-true, eqb-false, eq-eqb, ne_eqb, not-true, not-false}
 use lib.Dec.{ltb, eqb}
 use lib.ListN.{length, get_or, get_or-eq_default}
-use Rattle.laws.specs.Bytes.{little_at}
 use Rattle.laws.specs.Search.{least, any_below}
 use Rattle.laws.proofs.Search.{least_says, any_yes, any_no, any_at}
 use Rattle.laws.proofs.Tests.{by_test, and-true, or_false}
 use Rattle.container.specs.Chunks.{Chunk, chunks_of, bytes_of}
-use Rattle.container.specs.Rules.{Row, row, rows, header_rows, chunk_rows, chunk_at, count, is_json, is_bin, misplaced_json, misplaced_bin}
+use Rattle.container.specs.Rules.{Row, row, rows, header_rows, chunk_rows, chunk_at, count, is_bin, misplaced_json, misplaced_bin}
 use Rattle.container.specs.Meaning.{Broken, Starts, IsChunk, chunk_type_at, JSON, BIN}
 use Rattle.container.specs.Meaning.Broken.{rule1_few, rule1_many, rule2, rule3, rule4, rule5, rule6_first, rule6_later, rule7, rule8}
-use Rattle.container.proofs.Reached.{reached, place, There, chunk_there, chunk_below, chunk_length_lem, chunk_type_lem, stop_count, stop_bytes, last_none}
+use Rattle.container.proofs.Reached.{reached, place, chunk_there, chunk_below, chunk_length_lem, chunk_type_lem, stop_count, stop_bytes, last_none}
 
 -- row k, for rule k + 1
 abbrev pub row_at : List ℕ → ℕ → Row

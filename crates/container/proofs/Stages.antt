@@ -1,20 +1,18 @@
 -- What the pass over the chunks keeps, and one chunk more.
 -- Assumes nothing.
-use Prim.Native.Nat.{ℕ, zero, suc, ◌+◌, ◌*◌, ◌≤◌, ◌<◌}
+use Prim.Native.Nat.{ℕ, ◌+◌, ◌*◌, ◌≤◌, ◌<◌}
 use mathlib.Core.Path.{◌≡◌, refl, sym, ap, ◌∙◌}
-use mathlib.Core.Bool.{Bool, true, false, cond, not, ◌&&◌, ◌||◌}
-use mathlib.Core.List.{List, [], ◌∷◌}
-use native.Mathlib.Nat.{add_assoc}
+use mathlib.Core.Bool.{true, false, cond, not, ◌&&◌, ◌||◌}
+use mathlib.Core.List.{List, ◌∷◌}
 use native.Mathlib.Omega.{arith}
 use lib.Dec.{eqb, ltb}
-use lib.ListN.{length, drop, get_or, length-drop}
+use lib.ListN.{length, drop, length-drop}
 use lib.Seq.{drop-drop}
 use Rattle.laws.specs.Search.{least}
 use Rattle.laws.specs.Bytes.{little_at}
 use Rattle.laws.proofs.Search.{least_more}
 use Rattle.laws.proofs.Lists.{drop_head, drop-tail}
 use Rattle.laws.proofs.Bytes.{little_at-drop}
-use Rattle.container.specs.declared.Found.{Found}
 use Rattle.container.specs.Chunks.{Chunk, header_at, starts_whole, chunks_from, chunks_of, bytes_of}
 use Rattle.container.specs.Rules.{chunk_at, count, misplaced_json, misplaced_bin}
 use Rattle.container.specs.Found.{found_in}

@@ -1,17 +1,17 @@
 -- Where chunk 0 and chunk 1 lie in a file that its chunks fill.
 -- Assumes nothing.
-use Prim.Native.Nat.{ℕ, zero, suc, ◌+◌, ◌≤◌, ◌<◌}
+use Prim.Native.Nat.{ℕ, ◌+◌, ◌≤◌, ◌<◌}
 use mathlib.Core.Path.{◌≡◌, refl, sym, ap, ◌∙◌}
-use mathlib.Core.Bool.{Bool, true, false, cond, not, ◌&&◌, ◌||◌}
+use mathlib.Core.Bool.{true, false}
 use mathlib.Core.List.{List, [], ◌∷◌}
 use native.Mathlib.Omega.{arith}
 use borrow.Author.Tests.{ltb-true, ltb-false}
-use lib.Dec.{eqb, ltb}
+use lib.Dec.{ltb}
 use lib.ListN.{length, drop, get_or}
 use lib.Seq.{get_or-drop}
 use Rattle.laws.specs.Bytes.{little_at}
 use Rattle.laws.proofs.Tests.{by_test}
-use Rattle.container.specs.Chunks.{Chunk, header_at, starts_whole, chunks_from, chunks_of, bytes_of}
+use Rattle.container.specs.Chunks.{Chunk, header_at, starts_whole, chunks_of, bytes_of}
 use Rattle.container.specs.Rules.{chunk_at, count, is_bin}
 use Rattle.container.proofs.Chunks.{chunks_none, whole_short, whole_within}
 use Rattle.container.proofs.Stages.{Stage, stage_first, stage_next, chunk_at_lem, length_at, type_at}

@@ -1,6 +1,6 @@
 -- Rules 1 to 8, in the order of the rule table, and what opening a file answers.
 -- Assumes nothing: these are definitions.
-use Rattle.std.specs.Prelude.{ℕ, ◌+◌, Bool, true, false, cond, not, ◌&&◌, ◌||◌, List, [], ◌∷◌, ◌++◌, map, ltb, eqb, length, get_or}
+use Rattle.std.specs.Prelude.{ℕ, ◌+◌, Bool, false, cond, not, ◌&&◌, ◌||◌, List, [], ◌∷◌, ◌++◌, map, ltb, eqb, length, get_or}
 use Rattle.laws.specs.Bytes.{little_at}
 use Rattle.laws.specs.Search.{least, any_below, first_true}
 use Rattle.container.specs.declared.Container.{Container}

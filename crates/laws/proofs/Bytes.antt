@@ -1,11 +1,11 @@
 -- Little-endian numbers: the bound, one byte more at either end, and two lists that agree.
 -- Assumes nothing.
 use Prim.Native.Nat.{ℕ, zero, suc, ◌+◌, ◌*◌, ◌-◌, ◌^◌, ◌<◌, ◌≤◌}
-use mathlib.Core.Path.{◌≡◌, refl, sym, ap, ◌∙◌}
+use mathlib.Core.Path.{◌≡◌, refl}
 use mathlib.Core.List.{List, [], ◌∷◌}
 use native.Mathlib.Nat.{pow-succ'}
 use native.Mathlib.Omega.{arith}
-use lib.ListN.{get_or, take, drop, length}
+use lib.ListN.{get_or, drop, length}
 use lib.Seq.{drop-nil, take-nil, drop-drop}
 use Rattle.laws.specs.Bytes.{little, little_at}
 

@@ -1,6 +1,6 @@
 -- A rule of a table, or of every number below n, by one test that the checker computes. Nested, it holds of pairs and triples.
 -- Assumes nothing.
-use mathlib.Core.Path.{◌≡◌, subst, sym}
+use mathlib.Core.Path.{subst, sym}
 use mathlib.Core.Logic.{⊎_elim}
 use mathlib.Core.Bool.{Bool, true, false}
 use Prim.Native.Nat.{ℕ, zero, suc, ◌<◌}

@@ -1,6 +1,6 @@
 -- Searches: the least number that passes a test, and the verdict over a family of rules and items.
 -- Assumes nothing: these are definitions.
-use Rattle.std.specs.Prelude.{ℕ, zero, suc, Bool, true, false, cond, List, length, get_or, ltb}
+use Rattle.std.specs.Prelude.{ℕ, zero, suc, Bool, false, cond, List, length, get_or, ltb}
 
 -- the least i below n with p i, and n where there is none
 abbrev pub least : (ℕ → Bool) → ℕ → ℕ

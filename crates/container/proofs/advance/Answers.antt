@@ -1,4 +1,3 @@
-use borrow.Author.Rules.{rules}
 use Rattle.container.proofs.advance.Goals as goal
 
 pub returns-then-right-count : goal.returns-then-right-count

@@ -1,5 +1,3 @@
-use native.Mathlib.Omega.{arith}
-use borrow.Author.Rules.{rules}
 use mathlib.Core.Path.{sym}
 use Rattle.container.proofs.Chunks.{whole_short, whole_long}
 use Rattle.container.proofs.is_whole.Goals as goal

@@ -1,4 +1,4 @@
-use Prim.Native.Nat.{◌+◌, ◌≤◌, ◌<◌}
+use Prim.Native.Nat.{◌+◌, ◌≤◌}
 use mathlib.Core.Path.{◌≡◌, sym, ap, ◌∙◌}
 use native.Mathlib.Omega.{arith}
 use borrow.Author.Rules.{rules}
@@ -6,7 +6,7 @@ use lib.ListN.{length}
 use Rattle.laws.specs.Search.{least}
 use Rattle.container.specs.declared.Found.{Found}
 use Rattle.container.specs.Chunks.{chunks_of, bytes_of}
-use Rattle.container.specs.Rules.{chunk_at, count, misplaced_json, misplaced_bin, refused}
+use Rattle.container.specs.Rules.{chunk_at, count, misplaced_json, misplaced_bin}
 use Rattle.container.specs.Found.{found_in}
 use Rattle.container.proofs.TwoChunks.{json_length}
 use Rattle.container.proofs.Verdicts.{HeaderHolds, header_holds, header_refuses, size_bounds, rule5, rule6, rule7, rule8, none_broken}

@@ -3,7 +3,6 @@ use native.Mathlib.Omega.{arith}
 use Rattle.lines.specs.Report.{counts_line}
 use Rattle.lines.proofs.Stores.{put_two}
 use Rattle.lines.proofs.Texts.{field_length, counts_length}
-use borrow.Author.Rules.{rules}
 use Rattle.lines.proofs.put_counts.Goals as goal
 
 pub put_field-a-requires : goal.put_field-a-requires

@@ -8,9 +8,8 @@ use Rattle.lines.specs.Report.{verdict_line, counts_line, report_of, longest}
 use Rattle.lines.proofs.Stores.{put_two}
 use Rattle.lines.proofs.Exact.{report_longest}
 use Rattle.lines.proofs.Texts.{report_refused, report_accepted, verdict_within, written, unwritten}
-use borrow.Author.Rules.{rules}
 use Rattle.lines.proofs.report.Goals as goal
-use Rattle.lines.proofs.report.Goals.{After-put_verdict-end, Start}
+use Rattle.lines.proofs.report.Goals.{Start}
 
 -- the report of the arguments
 abbrev reported : Start → List ℕ
@@ -22,10 +21,6 @@ enough c =
     let a = c.args in
     let f = c.ranges in
     report_longest a.verdict a.item a.views a.accessors a.nodes a.scenes f.verdict.fits f.item.fits f.views.fits f.accessors.fits f.nodes.fits f.scenes.fits
-
--- past the first test the report has room
-room : (c : After-put_verdict-end) → length (reported (goal.at.NOGOAL c).Start) ≤ length c.args.out.now
-room c = omega (arith, c.if-out-report_length.false, c.report_length.ensures)
 
 pub returns-then-out-report_length : goal.returns-then-out-report_length
 returns-then-out-report_length c =
@@ -48,19 +43,20 @@ put_counts-requires c =
       length-append (verdict_line a.verdict a.item) (counts_line a.views a.accessors a.nodes a.scenes),
       p.ensures.ends,
       p.auto.out,
-      room (goal.at.put_counts-requires c).After-put_verdict-end,
+      c.if-out-report_length.false,
+      c.report_length.ensures,
     )
 
 pub returns-then-verdict-eq0 : goal.returns-then-verdict-eq0
 returns-then-verdict-eq0 c =
     let a = c.args in
     let e = report_accepted a.verdict a.item a.views a.accessors a.nodes a.scenes c.if-verdict-eq0.true in
-    let w = written (omega (arith, ap length e, room (goal.at.returns-then-verdict-eq0 c).After-put_verdict-end)) (put_two c.put_verdict-end.ensures c.put_counts.ensures) in
+    let w = written (omega (arith, ap length e, c.if-out-report_length.false, c.report_length.ensures)) (put_two c.put_verdict-end.ensures c.put_counts.ensures) in
     (rw e w.0, rw e w.1, enough (goal.at.returns-then-verdict-eq0 c).Start)
 
 pub returns : goal.returns
 returns c =
     let a = c.args in
     let e = report_refused a.verdict a.item a.views a.accessors a.nodes a.scenes c.if-verdict-eq0.false in
-    let w = written (omega (arith, ap length e, room (goal.at.returns c).After-put_verdict-end)) c.put_verdict-end.ensures in
+    let w = written (omega (arith, ap length e, c.if-out-report_length.false, c.report_length.ensures)) c.put_verdict-end.ensures in
     (rw e w.0, rw e w.1, enough (goal.at.returns c).Start)

@@ -1,7 +1,6 @@
 -- `lines::report_length` meets its contract. Assumes nothing.
 use native.Mathlib.Omega.{arith}
 use Rattle.lines.proofs.Texts.{length-refused, length-accepted}
-use borrow.Author.Rules.{rules}
 use Rattle.lines.proofs.report_length.Goals as goal
 
 pub returns-then-verdict-ne0 : goal.returns-then-verdict-ne0

@@ -1,7 +1,6 @@
 -- `lines::too_long` meets its contract. Assumes nothing.
 use Rattle.lines.specs.Report.{too_long}
 use Rattle.lines.proofs.Texts.{written, unwritten}
-use borrow.Author.Rules.{rules}
 use Rattle.lines.proofs.too_long.Goals as goal
 
 pub returns-then-out-lt28 : goal.returns-then-out-lt28

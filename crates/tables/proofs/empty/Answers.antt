@@ -1,4 +1,3 @@
-use borrow.Author.Rules.{rules}
 use Rattle.tables.specs.Records.{empty_tables}
 use Rattle.tables.proofs.empty.Goals as goal
 

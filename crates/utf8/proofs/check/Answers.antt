@@ -1,11 +1,9 @@
 -- `utf8::check` meets its contract. The loop's invariant: the length is that of what is left at i, and i more.
 -- Assumes nothing.
-use Prim.Native.Nat.{ℕ, ◌+◌, ◌-◌}
+use Prim.Native.Nat.{ℕ, ◌+◌}
 use native.Mathlib.Omega.{arith}
 use mathlib.Core.Path.{◌≡◌, ◌∙◌}
 use mathlib.Core.List.{List}
-use lib.ListN.{length}
-use borrow.Author.Rules.{rules}
 use Rattle.utf8.proofs.Turns.{Past, width_here, width_read, wide_turn, plain_turn, ends_here, whole_here}
 use Rattle.utf8.proofs.check.Goals as goal
 use Rattle.utf8.proofs.check.Goals.{After-width-n}

@@ -3,7 +3,6 @@
 use native.Mathlib.Omega.{arith}
 use mathlib.Core.Path.{sym}
 use lib.ListN.{get_or-eq_default}
-use borrow.Author.Rules.{rules}
 use Rattle.laws.proofs.Lists.{get_or_any}
 use Rattle.utf8.proofs.peek.Goals as goal
 

@@ -1,11 +1,9 @@
 -- `lines::pieces::put` meets its contract. What is left to store, stored, gives the whole run. Assumes nothing.
-use Prim.Native.Nat.{◌+◌, ◌-◌, ◌≤◌}
-use mathlib.Core.Path.{◌≡◌, refl, sym, ◌∙◌}
+use Prim.Native.Nat.{◌+◌}
+use mathlib.Core.Path.{refl, sym, ◌∙◌}
 use native.Mathlib.Omega.{arith}
-use lib.ListN.{length, drop, length-set}
-use lib.Seq.{sets}
+use lib.ListN.{length-set}
 use Rattle.lines.proofs.Stores.{run_first, run_next, run_last}
-use borrow.Author.Rules.{rules}
 use Rattle.lines.proofs.pieces.put.Goals as goal
 
 pub loop-i-init : goal.loop-i-init

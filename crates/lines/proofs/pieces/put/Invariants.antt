@@ -1,10 +1,7 @@
 use Prim.Native.Nat.{◌+◌, ◌-◌, ◌≤◌}
-use mathlib.Core.Path.{◌≡◌, refl, sym, ◌∙◌}
-use native.Mathlib.Omega.{arith}
-use lib.ListN.{length, drop, length-set}
+use mathlib.Core.Path.{◌≡◌}
+use lib.ListN.{length, drop}
 use lib.Seq.{sets}
-use Rattle.lines.proofs.Stores.{run_first, run_next, run_last}
-use borrow.Author.Rules.{rules}
 use Rattle.lines.proofs.pieces.put.Given as goal
 
 abbrev pub invariant-loop-i : goal.invariant-loop-i

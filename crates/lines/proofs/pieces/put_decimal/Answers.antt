@@ -1,13 +1,10 @@
 -- `lines::pieces::put_decimal` meets its contract. What is left to store, stored, gives the whole run. Assumes nothing.
-use Prim.Native.Nat.{◌+◌, ◌/◌, ◌≤◌, ◌<◌}
-use mathlib.Core.Path.{◌≡◌, refl, ◌∙◌}
+use Prim.Native.Nat.{◌/◌}
+use mathlib.Core.Path.{refl, ◌∙◌}
 use native.Mathlib.Omega.{arith}
-use lib.ListN.{length, length-set}
-use lib.Seq.{sets}
-use Rattle.lines.specs.Decimal.{decimal_of}
+use lib.ListN.{length-set}
 use Rattle.lines.proofs.Digits.{width_some, width_large}
 use Rattle.lines.proofs.Stores.{digits_next, digits_first}
-use borrow.Author.Rules.{rules}
 use Rattle.lines.proofs.pieces.put_decimal.Goals as goal
 
 pub overflow_sub-i : goal.overflow_sub-i

@@ -1,12 +1,8 @@
-use Prim.Native.Nat.{◌+◌, ◌/◌, ◌≤◌, ◌<◌}
-use mathlib.Core.Path.{◌≡◌, refl, ◌∙◌}
-use native.Mathlib.Omega.{arith}
-use lib.ListN.{length, length-set}
+use Prim.Native.Nat.{◌+◌, ◌≤◌, ◌<◌}
+use mathlib.Core.Path.{◌≡◌}
+use lib.ListN.{length}
 use lib.Seq.{sets}
 use Rattle.lines.specs.Decimal.{decimal_of}
-use Rattle.lines.proofs.Digits.{width_some, width_large}
-use Rattle.lines.proofs.Stores.{digits_next, digits_first}
-use borrow.Author.Rules.{rules}
 use Rattle.lines.proofs.pieces.put_decimal.Given as goal
 
 abbrev pub invariant-loop-rest : goal.invariant-loop-rest

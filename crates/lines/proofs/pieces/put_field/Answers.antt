@@ -3,7 +3,6 @@ use native.Mathlib.Omega.{arith}
 use Rattle.lines.specs.Report.{field}
 use Rattle.lines.proofs.Stores.{put_two}
 use Rattle.lines.proofs.Texts.{field_length}
-use borrow.Author.Rules.{rules}
 use Rattle.lines.proofs.pieces.put_field.Goals as goal
 
 pub put-a-requires : goal.put-a-requires

@@ -1,11 +1,6 @@
 -- `lines::pieces::width` meets its contract. Assumes nothing.
-use Prim.Native.Nat.{◌+◌, ◌≤◌}
-use mathlib.Core.Path.{◌≡◌}
 use native.Mathlib.Omega.{arith}
-use lib.ListN.{length}
-use Rattle.lines.specs.Decimal.{decimal_of}
 use Rattle.lines.proofs.Digits.{width_small, width_large, width_some, width_ten}
-use borrow.Author.Rules.{rules}
 use Rattle.lines.proofs.pieces.width.Goals as goal
 
 pub overflow_add-k : goal.overflow_add-k

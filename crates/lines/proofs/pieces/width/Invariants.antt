@@ -1,10 +1,7 @@
 use Prim.Native.Nat.{◌+◌, ◌≤◌}
 use mathlib.Core.Path.{◌≡◌}
-use native.Mathlib.Omega.{arith}
 use lib.ListN.{length}
 use Rattle.lines.specs.Decimal.{decimal_of}
-use Rattle.lines.proofs.Digits.{width_small, width_large, width_some, width_ten}
-use borrow.Author.Rules.{rules}
 use Rattle.lines.proofs.pieces.width.Given as goal
 
 abbrev pub invariant-loop-rest : goal.invariant-loop-rest

@@ -1,4 +1,3 @@
-use borrow.Author.Rules.{rules}
 use Rattle.tables.proofs.Faults.{fault_early, fault_late, fault_dense}
 use Rattle.tables.proofs.accessors.accessor_fault.Goals as goal
 

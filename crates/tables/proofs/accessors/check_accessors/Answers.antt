@@ -1,13 +1,12 @@
-use borrow.Author.Rules.{rules}
-use Prim.Native.Nat.{◌-◌, ◌≤◌, min}
+use Prim.Native.Nat.{min}
 use mathlib.Core.Path.{◌≡◌}
-use mathlib.Core.Logic.{⊎_elim}
 use native.Mathlib.Omega.{arith}
-use Rattle.laws.proofs.OnePass.{Seen, seen_none, seen_lower, seen_keep}
-use Rattle.tables.specs.Accessors.{accessor_fault, accessor_broken, accessors_finding}
+use Rattle.laws.proofs.OnePass.{seen_none, seen_lower, seen_keep}
+use Rattle.tables.specs.Accessors.{accessor_fault, accessors_finding}
 use Rattle.tables.proofs.Faults.{fault_least}
 use Rattle.tables.proofs.Findings.{found, found_none}
 use Rattle.tables.proofs.accessors.check_accessors.Goals as goal
+use Rattle.tables.proofs.accessors.check_accessors.Goals.{then-fault-rule, else-fault-rule}
 
 pub loop-i-init : goal.loop-i-init
 loop-i-init c = (omega arith, seen_none _ 25 15)
@@ -20,9 +19,10 @@ loop-i-preserved c =
     let e = fault_least a.views a.view_records a.records a.placed c.loop-i.i f.result
     (rw (c.at_most-values.ensures, c.at_most-indices.ensures, c.at_most-own.ensures) at f.ensures) in (
       omega arith,
-      ⊎_elim (λ w. rw (w.1, w.2) (seen_lower _ 25 15 f.result c.loop-i.invariant.1 e w.0.taken))
-          (λ w. rw (w.1, w.2) (seen_keep _ 25 15 f.result c.loop-i.invariant.1 e w.0.left))
-          c.if-fault-rule.branch,
+      elim c.if-fault-rule.branch [
+        | then-fault-rule w ↦ rw (w.rule-is, w.item-is) (seen_lower _ 25 15 f.result c.loop-i.invariant.1 e w.if-fault-rule.true)
+        | else-fault-rule w ↦ rw (w.rule-is, w.item-is) (seen_keep _ 25 15 f.result c.loop-i.invariant.1 e w.if-fault-rule.false)
+      ],
     )
 
 pub returns-then-rule-lt40 : goal.returns-then-rule-lt40

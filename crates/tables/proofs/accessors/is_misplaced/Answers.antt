@@ -1,4 +1,3 @@
-use borrow.Author.Rules.{rules}
 use Rattle.tables.specs.Accessors.{misplaced}
 use Rattle.tables.proofs.accessors.is_misplaced.Goals as goal
 

@@ -1,4 +1,3 @@
-use borrow.Author.Rules.{rules}
 use Rattle.tables.specs.Accessors.{layout_of}
 use Rattle.tables.proofs.accessors.layout_of.Goals as goal
 

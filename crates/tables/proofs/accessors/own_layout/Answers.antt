@@ -1,4 +1,3 @@
-use borrow.Author.Rules.{rules}
 use Rattle.tables.specs.Elements.{last_element_bytes}
 use Rattle.tables.specs.Accessors.{layout_of}
 use Rattle.tables.proofs.Elements.{size_is}

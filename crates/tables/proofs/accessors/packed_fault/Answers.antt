@@ -1,4 +1,3 @@
-use borrow.Author.Rules.{rules}
 use Rattle.tables.proofs.accessors.packed_fault.Goals as goal
 
 pub returns-then-misplaced_values-misplaced_indices : goal.returns-then-misplaced_values-misplaced_indices

@@ -1,4 +1,3 @@
-use Prim.Native.Nat.{ℕ}
 use mathlib.Core.Path.{◌≡◌, refl}
 use Rattle.tables.specs.Elements.{component_size}
 use Rattle.tables.proofs.Elements.{either}

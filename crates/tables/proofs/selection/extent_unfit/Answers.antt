@@ -1,4 +1,3 @@
-use borrow.Author.Rules.{rules}
 use mathlib.Core.Path.{refl}
 use Rattle.tables.specs.Fitness.{extent_unfit}
 use Rattle.tables.proofs.selection.extent_unfit.Goals as goal

@@ -1,5 +1,4 @@
-use borrow.Author.Rules.{rules}
-use mathlib.Core.Path.{◌≡◌, sym, ◌∙◌}
+use mathlib.Core.Path.{◌≡◌}
 use native.Mathlib.Nat.{mod-one}
 use Rattle.tables.specs.Accessors.{uneven, misplaced}
 use Rattle.tables.proofs.Elements.{one_left}

@@ -1,15 +1,13 @@
-use borrow.Author.Rules.{rules}
 use mathlib.Core.Path.{◌≡◌, sym}
 use mathlib.Core.Bool.{true, false, not}
 use mathlib.Core.Bool as B
-use mathlib.Core.Logic.{⊎_elim}
 use lib.Dec.{eqb, leb}
 use Rattle.laws.proofs.Tests.{or_false}
 use Rattle.tables.specs.Views.{rule23}
 use Rattle.tables.specs.Fitness.{named_unfit}
 use Rattle.tables.proofs.Truth.{and_left, and_right, or_more}
 use Rattle.tables.proofs.selection.named_unfit.Goals as goal
-use Rattle.tables.proofs.selection.named_unfit.Goals.{Else-v-x}
+use Rattle.tables.proofs.selection.named_unfit.Goals.{Else-v-x, then-v+else-stride, else-v}
 
 pub returns-then-v-x : goal.returns-then-v-x
 unfolding named_unfit
@@ -40,8 +38,8 @@ unfolding named_unfit
 returns c =
     let v = c.args.v in
     let f = first (goal.at.returns c).Else-v-x in
-    let r : rule23 v ≡ false = ⊎_elim
-    (λ w. and_right v.has_byte_stride _ w.1.left)
-    (λ w. and_left v.has_byte_stride _ w.left)
-    c.if-v.branch in
-    rw (f.0, f.1, c.if-v-x-2.false, r) (sym (B.or_false _))
+    let r : rule23 v ≡ false = elim c.if-v.branch [
+      | then-v+else-stride w ↦ and_right v.has_byte_stride _ w.if-stride.false
+      | else-v w ↦ and_left v.has_byte_stride _ w.if-v.false
+    ] in
+    rw (f.0, f.1, c.if-v-x-2.false, r) (sym (B.or-false _))

@@ -1,4 +1,3 @@
-use borrow.Author.Rules.{rules}
 use Rattle.tables.proofs.selection.own_fit.Goals as goal
 
 pub own_unfit-inner-requires : goal.own_unfit-inner-requires

@@ -1,4 +1,3 @@
-use borrow.Author.Rules.{rules}
 use Rattle.tables.specs.Fitness.{selection_of}
 use Rattle.tables.proofs.selection.select.Goals as goal
 

@@ -1,4 +1,3 @@
-use borrow.Author.Rules.{rules}
 use Rattle.tables.specs.Fitness.{view_selection_of}
 use Rattle.tables.proofs.selection.select_view.Goals as goal
 

@@ -1,4 +1,3 @@
-use borrow.Author.Rules.{rules}
 use Rattle.tables.specs.Fitness.{view_unfit}
 use Rattle.tables.proofs.selection.view_unfit.Goals as goal
 

@@ -1,4 +1,3 @@
-use borrow.Author.Rules.{rules}
 use mathlib.Core.Path.{refl}
 use Rattle.tables.specs.Accessors.{layout_of, sparse_tests}
 use Rattle.tables.proofs.Truth.{any_fault}

@@ -1,12 +1,11 @@
-use borrow.Author.Rules.{rules}
-use Prim.Native.Nat.{◌-◌, ◌≤◌, min}
+use Prim.Native.Nat.{min}
 use mathlib.Core.Path.{◌≡◌}
-use mathlib.Core.Logic.{⊎_elim}
 use native.Mathlib.Omega.{arith}
-use Rattle.laws.proofs.OnePass.{Seen, seen_none, seen_lower, seen_keep}
-use Rattle.tables.specs.Views.{view_broken, views_finding}
+use Rattle.laws.proofs.OnePass.{seen_none, seen_lower, seen_keep}
+use Rattle.tables.specs.Views.{views_finding}
 use Rattle.tables.proofs.Findings.{found, found_none}
 use Rattle.tables.proofs.views.check_views.Goals as goal
+use Rattle.tables.proofs.views.check_views.Goals.{then-fault-rule, else-fault-rule}
 
 pub loop-i-init : goal.loop-i-init
 loop-i-init c = (omega arith, seen_none _ 21 4)
@@ -15,9 +14,10 @@ pub loop-i-preserved : goal.loop-i-preserved
 loop-i-preserved c =
     let f = c.view_fault-fault in (
       omega arith,
-      ⊎_elim (λ w. rw (w.1, w.2) (seen_lower _ 21 4 f.result c.loop-i.invariant.1 f.ensures w.0.taken))
-          (λ w. rw (w.1, w.2) (seen_keep _ 21 4 f.result c.loop-i.invariant.1 f.ensures w.0.left))
-          c.if-fault-rule.branch,
+      elim c.if-fault-rule.branch [
+        | then-fault-rule w ↦ rw (w.rule-is, w.item-is) (seen_lower _ 21 4 f.result c.loop-i.invariant.1 f.ensures w.if-fault-rule.true)
+        | else-fault-rule w ↦ rw (w.rule-is, w.item-is) (seen_keep _ 21 4 f.result c.loop-i.invariant.1 f.ensures w.if-fault-rule.false)
+      ],
     )
 
 pub returns-then-rule-lt25 : goal.returns-then-rule-lt25

@@ -1,11 +1,6 @@
-use borrow.Author.Rules.{rules}
-use Prim.Native.Nat.{◌-◌, ◌≤◌, min}
-use mathlib.Core.Path.{◌≡◌}
-use mathlib.Core.Logic.{⊎_elim}
-use native.Mathlib.Omega.{arith}
-use Rattle.laws.proofs.OnePass.{Seen, seen_none, seen_lower, seen_keep}
-use Rattle.tables.specs.Views.{view_broken, views_finding}
-use Rattle.tables.proofs.Findings.{found, found_none}
+use Prim.Native.Nat.{◌-◌, ◌≤◌}
+use Rattle.laws.proofs.OnePass.{Seen}
+use Rattle.tables.specs.Views.{view_broken}
 use Rattle.tables.proofs.views.check_views.Given as goal
 
 abbrev pub invariant-loop-i : goal.invariant-loop-i
