@@ -1,5 +1,4 @@
 -- `scene::lists::walk_packed` meets its contract. Assumes nothing.
-use borrow.Author.Rules.{rules}
 use mathlib.Core.Path.{refl}
 use borrow.Author.Tests.{leb-false}
 use Rattle.laws.proofs.Tests.{or_false}

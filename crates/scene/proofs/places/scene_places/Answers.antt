@@ -1,13 +1,11 @@
 -- `scene::places::scene_places` meets its contract. Assumes nothing.
 use borrow.Author.Rules.{rules}
-use Prim.Native.Nat.{ℕ, ◌-◌, ◌≤◌}
+use Prim.Native.Nat.{ℕ}
 use mathlib.Core.Path.{◌≡◌, refl, sym, ◌∙◌}
 use native.Mathlib.Omega.{arith}
-use mathlib.Core.List.{List as Numbers}
-use lib.ListN.{length, length-replicate, replicate}
-use Rattle.tables.specs.declared.List.{List}
+use lib.ListN.{length, length-replicate}
 use Rattle.tables.specs.Records.{no_list}
-use Rattle.scene.proofs.Copies.{copied, copied_more, copied_all}
+use Rattle.scene.proofs.Copies.{copied_more, copied_all}
 use Rattle.scene.proofs.places.scene_places.Goals as goal
 use Rattle.scene.proofs.places.scene_places.Invariants.{start, size, zeros}
 

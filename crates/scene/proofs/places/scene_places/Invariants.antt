@@ -1,12 +1,9 @@
-use borrow.Author.Rules.{rules}
 use Prim.Native.Nat.{ℕ, ◌-◌, ◌≤◌}
-use mathlib.Core.Path.{◌≡◌, refl, sym, ◌∙◌}
-use native.Mathlib.Omega.{arith}
+use mathlib.Core.Path.{◌≡◌}
 use mathlib.Core.List.{List as Numbers}
-use lib.ListN.{length, length-replicate, replicate}
+use lib.ListN.{replicate}
 use Rattle.tables.specs.declared.List.{List}
-use Rattle.tables.specs.Records.{no_list}
-use Rattle.scene.proofs.Copies.{copied, copied_more, copied_all}
+use Rattle.scene.proofs.Copies.{copied}
 use Rattle.scene.proofs.places.scene_places.Given as goal
 
 abbrev pub start : List → ℕ

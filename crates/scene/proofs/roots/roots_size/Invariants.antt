@@ -1,11 +1,9 @@
-use borrow.Author.Rules.{rules}
 use Prim.Native.Nat.{◌-◌, min, ◌≤◌}
-use mathlib.Core.Path.{◌≡◌, ap, ◌∙◌}
-use native.Mathlib.Omega.{arith}
+use mathlib.Core.Path.{◌≡◌}
 use lib.ListN.{length}
 use Rattle.graph.specs.Order.{preorder}
 use Rattle.scene.specs.Steps.{kids_in}
-use Rattle.scene.proofs.Laws.{so_far, root_length, whole_so_far}
+use Rattle.scene.proofs.Laws.{so_far}
 use Rattle.scene.proofs.roots.roots_size.Given as goal
 
 abbrev pub invariant-loop-i : goal.invariant-loop-i

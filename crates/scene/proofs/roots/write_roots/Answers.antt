@@ -1,6 +1,5 @@
 -- `scene::roots::write_roots` meets its contract. Assumes nothing.
-use borrow.Author.Rules.{rules}
-use Prim.Native.Nat.{◌+◌, ◌-◌, ◌≤◌}
+use Prim.Native.Nat.{◌+◌}
 use mathlib.Core.Path.{◌≡◌, refl, sym, ap, ◌∙◌}
 use native.Mathlib.Omega.{arith}
 use lib.ListN.{length}
@@ -18,15 +17,19 @@ subtree-next-requires c =
     let a = c.args in
     let f = preorder (kids_in a.starts.now a.lengths.now a.children.now) a.left in
     let l = c.loop-i in
-    let more = c.loop-i-test.true in record { linked = c.requires.linked; node_in_bounds = c.requires.rooted.nodes l.i more; node_in_bounds_2 = omega (
-          arith,
-          l.invariant.1,
-          l.invariant.3,
-          c.requires.roots_in_bounds,
-          root_length f a.roots.now l.i,
-          so_far_le f a.roots.now 0 (l.i + 1) (length a.roots.now) (omega arith),
-          ap length (whole_so_far f a.roots.now),
-        ) }
+    let more = c.loop-i-test.true in record {
+      linked = c.requires.linked;
+      node_in_bounds = c.requires.rooted.nodes l.i more;
+      node_in_bounds_2 = omega (
+        arith,
+        l.invariant.1,
+        l.invariant.3,
+        c.requires.roots_in_bounds,
+        root_length f a.roots.now l.i,
+        so_far_le f a.roots.now 0 (l.i + 1) (length a.roots.now) (omega arith),
+        ap length (whole_so_far f a.roots.now),
+      );
+    }
 
 pub loop-i-preserved : goal.loop-i-preserved
 loop-i-preserved c =

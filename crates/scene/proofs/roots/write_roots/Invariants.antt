@@ -1,11 +1,9 @@
-use borrow.Author.Rules.{rules}
-use Prim.Native.Nat.{◌+◌, ◌-◌, ◌≤◌}
-use mathlib.Core.Path.{◌≡◌, refl, sym, ap, ◌∙◌}
-use native.Mathlib.Omega.{arith}
+use Prim.Native.Nat.{◌-◌, ◌≤◌}
+use mathlib.Core.Path.{◌≡◌}
 use lib.ListN.{length}
 use Rattle.graph.specs.Order.{preorder}
 use Rattle.scene.specs.Steps.{kids_in, written}
-use Rattle.scene.proofs.Laws.{so_far, written_nil, so_far_le, root_length, root_written, whole_so_far}
+use Rattle.scene.proofs.Laws.{so_far}
 use Rattle.scene.proofs.roots.write_roots.Given as goal
 
 abbrev pub invariant-loop-i : goal.invariant-loop-i
