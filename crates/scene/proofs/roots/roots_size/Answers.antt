@@ -12,10 +12,6 @@ pub loop-i-init : goal.loop-i-init
 unfolding so_far
 loop-i-init c = (omega arith, omega arith)
 
-pub subtree_size-count-requires : goal.subtree_size-count-requires
-subtree_size-count-requires c =
-    record { linked = c.requires.linked; node_in_bounds = c.requires.rooted.nodes c.loop-i.i c.loop-i-test.true }
-
 pub loop-i-preserved : goal.loop-i-preserved
 loop-i-preserved c =
     let a = c.args in

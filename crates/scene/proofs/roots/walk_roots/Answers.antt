@@ -23,10 +23,6 @@ returns-then-room-count c =
     lt-ltb (length a.list.now) (length order) (omega (arith, c.roots_size-count.ensures, c.if-room-count.true)) in
     (rw t, rw t)
 
-pub write_roots-requires : goal.write_roots-requires
-write_roots-requires c =
-    record { linked = c.requires.linked; rooted = c.requires.rooted; roots_in_bounds = omega (arith, c.roots_size-count.ensures, c.if-room-count.false) }
-
 pub returns : goal.returns
 unfolding listed
 returns c =

@@ -47,9 +47,6 @@ loop-i-preserved c =
       r.auto.list ∙ l.invariant.3,
     )
 
-pub shape_of-list : goal.shape_of-list
-shape_of-list c = c.loop-i.invariant.3
-
 pub returns : goal.returns
 returns c =
     let a = c.args in
