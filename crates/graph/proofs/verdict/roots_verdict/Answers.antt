@@ -13,8 +13,18 @@ returns-then-twice-scenes c = rw (le-ltb _ _ c.if-past-scenes.false, lt-ltb _ _ 
 
 pub returns-then-parented-scenes : goal.returns-then-parented-scenes
 unfolding roots_verdict
-returns-then-parented-scenes c = rw (le-ltb _ _ c.if-past-scenes.false, le-ltb _ _ c.if-twice-scenes.false, lt-ltb _ _ c.if-parented-scenes.true)
+returns-then-parented-scenes c =
+    rw (
+      le-ltb _ _ c.if-past-scenes.false,
+      le-ltb _ _ c.if-twice-scenes.false,
+      lt-ltb _ _ c.if-parented-scenes.true,
+    )
 
 pub returns : goal.returns
 unfolding roots_verdict
-returns c = rw (le-ltb _ _ c.if-past-scenes.false, le-ltb _ _ c.if-twice-scenes.false, le-ltb _ _ c.if-parented-scenes.false)
+returns c =
+    rw (
+      le-ltb _ _ c.if-past-scenes.false,
+      le-ltb _ _ c.if-twice-scenes.false,
+      le-ltb _ _ c.if-parented-scenes.false,
+    )

@@ -28,8 +28,7 @@ here : (c : Else-refused)
 here c = (fits c).scenes.lists _ c.requires
 
 pub offset_bounds-scene_starts-scene : goal.offset_bounds-scene_starts-scene
-offset_bounds-scene_starts-scene c =
-    omega (arith, (fits c).scenes.fits, c.requires)
+offset_bounds-scene_starts-scene c = omega (arith, (fits c).scenes.fits, c.requires)
 
 pub bounds-scene_starts-scene : goal.bounds-scene_starts-scene
 bounds-scene_starts-scene c = (here (goal.at.bounds-scene_starts-scene c).Else-refused).started
@@ -42,10 +41,14 @@ pub bounds-scene_lengths-scene : goal.bounds-scene_lengths-scene
 bounds-scene_lengths-scene c = (here (goal.at.bounds-scene_lengths-scene c).Else-refused).measured
 
 pub slice_bounds-walk_roots-end : goal.slice_bounds-walk_roots-end
-slice_bounds-walk_roots-end c = sym (part_length _ _ _ _ _ _ _ _ (fits (goal.at.slice_bounds-walk_roots-end c).Else-refused))
+slice_bounds-walk_roots-end c =
+    let ok = fits (goal.at.slice_bounds-walk_roots-end c).Else-refused in
+    sym (part_length _ _ _ _ _ _ _ _ ok)
 
 pub slice_bounds-walk_roots-end-2 : goal.slice_bounds-walk_roots-end-2
-slice_bounds-walk_roots-end-2 c = sym (part_measured _ _ _ _ _ _ _ _ (fits (goal.at.slice_bounds-walk_roots-end-2 c).Else-refused))
+slice_bounds-walk_roots-end-2 c =
+    let ok = fits (goal.at.slice_bounds-walk_roots-end-2 c).Else-refused in
+    sym (part_measured _ _ _ _ _ _ _ _ ok)
 
 pub slice_bounds-walk_roots-end-3 : goal.slice_bounds-walk_roots-end-3
 slice_bounds-walk_roots-end-3 c = omega (arith, (here (goal.at.slice_bounds-walk_roots-end-3 c).Else-refused).within)
@@ -57,7 +60,10 @@ walk_roots-requires c =
     let size = get_or a.scene_lengths.now a.scene 0 in
     let e : start + size - start ≡ size = omega arith in
     let ok = fits (goal.at.walk_roots-requires c).Else-refused in
-    record { linked = part_linked _ _ _ _ _ _ _ _ ok; rooted = rw e (part_rooted _ _ _ _ _ _ _ _ ok a.scene c.requires) }
+    record {
+      linked = part_linked _ _ _ _ _ _ _ _ ok;
+      rooted = rw e (part_rooted _ _ _ _ _ _ _ _ ok a.scene c.requires);
+    }
 
 pub returns : goal.returns
 unfolding walk_lists

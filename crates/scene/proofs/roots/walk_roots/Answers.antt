@@ -30,8 +30,9 @@ returns c =
     let size = c.roots_size-count in
     let kids = kids_in a.starts.now a.lengths.now a.children.now in
     let order : List ℕ = scene_order kids a.left a.roots.now in
-    let small : length order ≤ length a.list.now =
-    omega (arith, size.ensures, c.if-room-count.false) in
+    let small : length order ≤ length a.list.now = omega (arith, size.ensures, c.if-room-count.false) in
     let t : ltb (length a.list.now) (length order) ≡ false = le-ltb (length a.list.now) (length order) small in
-    let n : size.result ≡ length order = omega (arith, size.ensures) in
-    (rw t (ap (λ (k : ℕ). record { number = 0; count = k }) n), rw t (c.write_roots.ensures ∙ written_front a.list.now order))
+    let n : size.result ≡ length order = omega (arith, size.ensures) in (
+      rw t (ap (λ (k : ℕ). record { number = 0; count = k }) n),
+      rw t (c.write_roots.ensures ∙ written_front a.list.now order),
+    )

@@ -17,7 +17,8 @@ subtree-next-requires c =
     let a = c.args in
     let f = preorder (kids_in a.starts.now a.lengths.now a.children.now) a.left in
     let l = c.loop-i in
-    let more = c.loop-i-test.true in record {
+    let more = c.loop-i-test.true in
+    record {
       linked = c.requires.linked;
       node_in_bounds = c.requires.rooted.nodes l.i more;
       node_in_bounds_2 = omega (
@@ -43,7 +44,8 @@ loop-i-preserved c =
       omega (arith, r.ensures.0, l.invariant.1, root_length f a.roots.now l.i),
       r.ensures.1
           ∙ root_written f a.roots.now a.list.now l.list l.i l.next
-          (omega (arith, c.requires.roots_in_bounds, fits, ap length (whole_so_far f a.roots.now))) l.invariant.1 l.invariant.2,
+          (omega (arith, c.requires.roots_in_bounds, fits, ap length (whole_so_far f a.roots.now)))
+          l.invariant.1 l.invariant.2,
       r.auto.list ∙ l.invariant.3,
     )
 

@@ -7,8 +7,10 @@ use Rattle.scene.proofs.Laws.{so_far}
 use Rattle.scene.proofs.roots.write_roots.Given as goal
 
 abbrev pub invariant-loop-i : goal.invariant-loop-i
-invariant-loop-i l = let so_far = so_far (preorder (kids_in l.starts l.lengths l.children) l.left) l.roots 0 l.i in
-    (l.i ≤ length l.roots) × (l.next ≡ length so_far) × (l.list ≡ written l.initial.list 0 so_far) × (length l.list ≡ length l.initial.list)
+invariant-loop-i l =
+    let done = so_far (preorder (kids_in l.starts l.lengths l.children) l.left) l.roots 0 l.i in
+    (l.i ≤ length l.roots) × (l.next ≡ length done) × (l.list ≡ written l.initial.list 0 done)
+    × (length l.list ≡ length l.initial.list)
 
 abbrev pub decreases-loop-i : goal.decreases-loop-i
 decreases-loop-i l = length l.roots - l.i
