@@ -1,5 +1,5 @@
-// A loop over the elements of one accessor, as a program has it. tools/timing times it alone in a library, and in that of
-// `timing`, beside other uses of `component_in`.
+// A loop over the elements of one accessor, as a program has it. tools/timing times it alone in the static library of
+// `timing_loop_c`, and in that of `timing_c`, beside other uses of `component_in`.
 #![tactic(auto)]
 
 ghost use Rattle.std.specs.Prelude.{◌≡◌};
