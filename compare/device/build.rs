@@ -1,4 +1,4 @@
-//! Links the static library of crate `device` (`rt staticlib device`).
+//! Links the static library of crate `device` (`tools/staticlib device`).
 
 use std::env;
 use std::path::Path;

@@ -1,11 +1,9 @@
 -- What the bench program writes for its standard input (document 01, "Tables, readings, walk").
 -- Assumes nothing: these are definitions.
-use Rattle.std.specs.Prelude.{ℕ, ◌≤◌, cond, List, ltb, length}
+use Rattle.std.specs.Prelude.{ℕ, ◌≤◌, cond, List, ltb, length, Result, Ok, Err}
 use Rattle.glb.specs.declared.Checked.{Checked}
 use Rattle.glb.specs.Check.{check_of}
 use Rattle.lines.specs.Report.{report_of, too_long}
-use Rattle.bench.specs.declared.Input.{Input}
-use Rattle.bench.specs.declared.Input.TheVariants.{Bytes, Failed}
 
 -- the lines on a file that was checked
 unfoldable pub lines_of : Checked → List ℕ
@@ -16,6 +14,6 @@ unfoldable pub answer_of : List ℕ → List ℕ
 answer_of input = cond (ltb 65536 (length input)) too_long (lines_of (check_of input))
 
 -- the bytes that were read are the first of the buffer
-abbrev pub Within : Input → List ℕ → Type 0
-Within (Bytes n) buffer = n ≤ length buffer
-Within Failed buffer = Unit {0}
+abbrev pub Within : {E : Type 0} → Result ℕ E → List ℕ → Type 0
+Within (Ok n) buffer = n ≤ length buffer
+Within (Err e) buffer = Unit {0}

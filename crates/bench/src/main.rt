@@ -1,44 +1,43 @@
 // The bench program: takes a file from standard input and writes its verdict, item and counts to standard output.
-ghost use Rattle.std.specs.Prelude.{◌≡◌, ◌++◌, ◌≤◌, length, drop};
+#![tactic(auto)]
+
+ghost use Rattle.std.specs.Prelude.{◌≡◌, ◌++◌, ◌≤◌, ◌<◌, ℕ, length, take, drop, vec_len, IfOk, OnOk, OnErr, IfSome};
+ghost use Rattle.std.specs.Io.KnownBytes.{Appends, Consumes, IsAtEnd};
 ghost use Rattle.lines.specs.Report.{longest};
 ghost use Rattle.bench.specs.Bench.{answer_of, Within};
 
-use libc::{STDERR_FILENO, STDIN_FILENO, STDOUT_FILENO};
+use std::alloc::{AllocError, Global};
+use std::io;
+use std::io::{Read, Write};
 
 // The most bytes that are checked.
 const LIMIT: usize = 65536;
 
-// Standard input: how many bytes came, or that a read failed.
-#[derive(Clone, Copy)]
-enum Input {
-    Bytes(usize),
-    Failed,
-}
-
 // Room for one byte more than are checked.
-fn input_buffer() -> [u8; 65537]
-    ensures { 65537 ≡ length result }
+fn input_buffer(alloc: Global) -> Result<Vec<u8>, AllocError>
+    ensures { IfOk result (λ buffer. 65537 ≡ vec_len buffer) }
 {
-    [0; 65537]
+    vec![in alloc; 0; 65537]
 }
 
-// Reads until the input ends or the buffer is full.
-fn read_input(buffer: &mut [u8]) -> Input
-    ensures { Within result buffer.new }
+// Reads until the input ends or the buffer is full, and says how many bytes came. They lie at the start of the buffer, also
+// those that came before an error.
+fn read_input<I: Read>(input: &mut I, buffer: &mut [u8]) -> io::Result<usize>
+    ensures within { Within result buffer.new }
+    ensures bytes { IfOk result (λ n. Consumes (I.remaining input.old) (I.remaining input.new) (take n buffer.new)) }
+    ensures end { IfOk result (λ n. n < length buffer.new → IsAtEnd (I.remaining input.new)) }
+    ensures err { OnErr result ((n : ℕ) × (n ≤ length buffer.new)
+        × Consumes (I.remaining input.old) (I.remaining input.new) (take n buffer.new)) }
 {
     let mut n = 0;
     while n < buffer.len() {
-        let got = libc::read(STDIN_FILENO, &mut buffer[n..]);
-        if got < 0 {
-            return Input::Failed;
-        }
-        let more = io::count(got, &buffer[n..]);
+        let more = input.read(&mut buffer[n..])?;
         if more == 0 {
-            return Input::Bytes(n);
+            return Ok(n);
         }
         n += more;
     }
-    Input::Bytes(n)
+    Ok(n)
 }
 
 // What is written for an input, at the start of the list, and its length.
@@ -64,21 +63,25 @@ fn answer(input: &[u8], out: &mut [u8]) -> usize
 }
 
 // Checks and answers the input that was read.
-fn respond(input: &[u8]) {
+fn respond<O: Write>(input: &[u8], out: &mut O) -> io::Result<()>
+    ensures { OnOk result (Appends (O.contents out.old) (O.contents out.new) (answer_of input.now)) }
+{
     let mut line = [0u8; lines::LONGEST];
     let n = answer(input, &mut line);
-    if !io::write_all(STDOUT_FILENO, &line[..n]) {
-        io::write_all(STDERR_FILENO, b"bench: cannot write standard output\n");
-    }
+    out.write_all(&line[..n])
 }
 
-fn main() {
-    let mut buffer = input_buffer();
-    let input = read_input(&mut buffer);
-    match input {
-        Input::Bytes(n) => respond(&buffer[..n]),
-        Input::Failed => {
-            io::write_all(STDERR_FILENO, b"bench: cannot read standard input\n");
-        }
-    }
+// Reads a file and answers it.
+fn run<I: Read, O: Write>(input: &mut I, out: &mut O, buffer: &mut [u8]) -> io::Result<()>
+    requires { 65537 ≡ length buffer.old }
+    ensures { OnOk result (IfSome (I.remaining input.old)
+        (λ file. Appends (O.contents out.old) (O.contents out.new) (answer_of file))) }
+{
+    let n = read_input(input, buffer)?;
+    respond(&buffer[..n], out)
+}
+
+fn main(rt: HostRuntime) -> io::Result<()> {
+    let mut buffer = input_buffer(rt.alloc())?;
+    run(&mut rt.stdin(), &mut rt.stdout(), &mut buffer)
 }

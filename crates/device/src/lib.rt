@@ -1,4 +1,5 @@
-// The C interface: check, and readings over tables that are 4,000 words. glb.h has the layout and says what is lent.
+// What the C interface calls, through `device_c`: check, and readings over tables that are 4,000 words. glb.h has the layout and
+// says what is lent.
 ghost use Rattle.std.specs.Prelude.{◌≡◌};
 ghost use Rattle.access.specs.Readings.{component_of};
 ghost use Rattle.access.specs.Views.{view_number_of};
@@ -13,8 +14,7 @@ mod readings;
 mod records;
 
 // The verdict on a file, the item, and the tables as words; refused, they are 0 but for the item.
-#[unsafe(no_mangle)]
-pub extern "C" fn glb_check(file: &[u8], words: &mut [u32; 4000], item: &mut u32) -> u32
+pub fn glb_check(file: &[u8], words: &mut [u32; 4000], item: &mut u32) -> u32
     ensures { (result ≡ (check_of file.now).verdict)
         × (words.new ≡ words_of (check_of file.now).tables)
         × (tables_of words.new ≡ (check_of file.now).tables)
@@ -28,8 +28,7 @@ pub extern "C" fn glb_check(file: &[u8], words: &mut [u32; 4000], item: &mut u32
 }
 
 // One component of an accessor: 60, 63, 61, 62, or 0. Refused, the value is 0.
-#[unsafe(no_mangle)]
-pub extern "C" fn glb_component(
+pub fn glb_component(
     file: &[u8],
     words: &[u32; 4000],
     accessor: u32,
@@ -47,8 +46,7 @@ pub extern "C" fn glb_component(
 }
 
 // Where a view starts in the file and how long it is, both 0 when refused: 67, 63, or 0.
-#[unsafe(no_mangle)]
-pub extern "C" fn glb_view(file: &[u8], words: &[u32; 4000], view: u32, place: &mut [u64; 2]) -> u32
+pub fn glb_view(file: &[u8], words: &[u32; 4000], view: u32, place: &mut [u64; 2]) -> u32
     ensures { (result ≡ view_number_of file.now (tables_of words.now) view)
         × (place.new ≡ place_of file.now (tables_of words.now) view) }
 {
@@ -58,13 +56,7 @@ pub extern "C" fn glb_view(file: &[u8], words: &[u32; 4000], view: u32, place: &
 }
 
 // The nodes of a scene into a lent list, and how many they are: 64, 66, 65, or 0.
-#[unsafe(no_mangle)]
-pub extern "C" fn glb_walk(
-    words: &[u32; 4000],
-    scene: u32,
-    list: &mut [u16],
-    count: &mut u32,
-) -> u32
+pub fn glb_walk(words: &[u32; 4000], scene: u32, list: &mut [u16], count: &mut u32) -> u32
     ensures { (result ≡ (walk_of (tables_of words.now) scene list.old).walked.number)
         × (count.new ≡ (walk_of (tables_of words.now) scene list.old).walked.count)
         × (list.new ≡ (walk_of (tables_of words.now) scene list.old).list) }

@@ -1,4 +1,4 @@
-// Functions that tools/timing calls from C, to time the library from outside.
+// Functions that tools/timing calls from C, through `timing_c`, to time the library from outside.
 ghost use Rattle.std.specs.Prelude.{◌≡◌};
 ghost use Rattle.text.specs.Rules.{text_of};
 ghost use Rattle.container.specs.Rules.{container_of};
@@ -14,8 +14,7 @@ use tables::Tables;
 use tables::selection::Selection;
 
 // Rules 1 to 8: the number.
-#[unsafe(no_mangle)]
-pub extern "C" fn time_container(file: &[u8]) -> u32
+pub fn time_container(file: &[u8]) -> u32
     ensures { result ≡ (container_of file.now).number }
 {
     let c = container::open(file);
@@ -23,8 +22,7 @@ pub extern "C" fn time_container(file: &[u8]) -> u32
 }
 
 // Rules 9 to 13: the number.
-#[unsafe(no_mangle)]
-pub extern "C" fn time_text(chunk: &[u8]) -> u32
+pub fn time_text(chunk: &[u8]) -> u32
     ensures { result ≡ (text_of chunk.now).number }
 {
     let fault = text::check(chunk);
@@ -32,8 +30,7 @@ pub extern "C" fn time_text(chunk: &[u8]) -> u32
 }
 
 // Rules 9 to 18, with the tables: the number.
-#[unsafe(no_mangle)]
-pub extern "C" fn time_document(chunk: &[u8]) -> u32
+pub fn time_document(chunk: &[u8]) -> u32
     ensures { result ≡ (document_of chunk.now).number }
 {
     let d = document::read(chunk);
@@ -41,8 +38,7 @@ pub extern "C" fn time_document(chunk: &[u8]) -> u32
 }
 
 // Rules 1 to 47, with the tables: the verdict.
-#[unsafe(no_mangle)]
-pub extern "C" fn time_check(file: &[u8]) -> u32
+pub fn time_check(file: &[u8]) -> u32
     ensures { result ≡ (check_of file.now).verdict }
 {
     let c = glb::check(file);
@@ -50,29 +46,21 @@ pub extern "C" fn time_check(file: &[u8]) -> u32
 }
 
 // One component of an accessor that was selected before.
-#[unsafe(no_mangle)]
-pub extern "C" fn time_component_in(
-    file: &[u8],
-    s: Selection,
-    element: u32,
-    component: u32,
-) -> Reading
+pub fn time_component_in(file: &[u8], s: Selection, element: u32, component: u32) -> Reading
     ensures { result ≡ component_in file.now s element component }
 {
     access::component_in(file, s, element, component)
 }
 
 // The loop of `timing_loop`, in a library with other uses of `component_in`.
-#[unsafe(no_mangle)]
-pub extern "C" fn time_elements_beside(file: &[u8], s: Selection, component: u32, n: u32) -> u32
+pub fn time_elements_beside(file: &[u8], s: Selection, component: u32, n: u32) -> u32
     ensures { result ≡ count_of file.now s component n }
 {
     timing_loop::time_elements(file, s, component, n)
 }
 
 // One component, from whole tables.
-#[unsafe(no_mangle)]
-pub extern "C" fn time_component(
+pub fn time_component(
     file: &[u8],
     t: Tables,
     accessor: u32,
@@ -85,8 +73,7 @@ pub extern "C" fn time_component(
 }
 
 // The walk of a scene.
-#[unsafe(no_mangle)]
-pub extern "C" fn time_walk(t: Tables, scene: u32, list: &mut [u16]) -> Walked
+pub fn time_walk(t: Tables, scene: u32, list: &mut [u16]) -> Walked
     ensures { (result ≡ (walk_of t scene list.old).walked)
         × (list.new ≡ (walk_of t scene list.old).list) }
 {

@@ -1,0 +1,20 @@
+-- What was written is the answer, by the input's length. Assumes nothing.
+use mathlib.Core.Path.{◌∙◌, ap, sym}
+use native.Mathlib.Omega.{arith}
+use Rattle.lines.specs.Report.{too_long}
+use Rattle.bench.specs.Bench.{lines_of}
+use Rattle.bench.proofs.Answers.{answer_long, answer_checked, answered}
+use Rattle.bench.proofs.answer.Goals as goal
+
+pub returns-then-input-gt-LIMIT : goal.returns-then-input-gt-LIMIT
+unfolding too_long
+returns-then-input-gt-LIMIT c =
+    let p = c.too_long.ensures in
+    answered c.args.out.now (answer_long c.args.input.now (omega arith)) (omega (arith, c.requires)) p.0 p.1
+
+pub returns : goal.returns
+unfolding lines_of
+returns c =
+    let p = c.report.ensures in
+    let e = answer_checked c.args.input.now (omega arith) ∙ ap lines_of (sym c.check-c.ensures) in
+    answered c.args.out.now e (omega (arith, c.requires, p.2)) p.0 p.1

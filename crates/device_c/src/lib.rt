@@ -1,0 +1,61 @@
+// The C interface of `device`: check, and readings over tables that are 4,000 words. crates/device/glb.h is its header.
+#![tactic(auto)]
+
+ghost use Rattle.std.specs.Prelude.{◌≡◌};
+ghost use Rattle.access.specs.Readings.{component_of};
+ghost use Rattle.access.specs.Views.{view_number_of};
+ghost use Rattle.scene.specs.Walk.{walk_of};
+ghost use Rattle.device.specs.Places.{place_of};
+ghost use Rattle.glb.specs.Check.{check_of};
+ghost use Rattle.device.specs.Words.{tables_of, words_of};
+
+// The verdict on a file, the item, and the tables as words; refused, they are 0 but for the item.
+#[unsafe(no_mangle)]
+pub extern "C" fn glb_check(file: &[u8], words: &mut [u32; 4000], item: &mut u32) -> u32
+    ensures { (result ≡ (check_of file.now).verdict)
+        × (words.new ≡ words_of (check_of file.now).tables)
+        × (tables_of words.new ≡ (check_of file.now).tables)
+        × (item.new ≡ (check_of file.now).item) }
+{
+    device::glb_check(file, words, item)
+}
+
+// One component of an accessor: 60, 63, 61, 62, or 0. Refused, the value is 0.
+#[unsafe(no_mangle)]
+pub extern "C" fn glb_component(
+    file: &[u8],
+    words: &[u32; 4000],
+    accessor: u32,
+    element: u32,
+    component: u32,
+    value: &mut i64,
+) -> u32
+    ensures { (result ≡ (component_of file.now (tables_of words.now) accessor element component).number)
+        × (value.new ≡ (component_of file.now (tables_of words.now) accessor element component).value) }
+{
+    device::glb_component(file, words, accessor, element, component, value)
+}
+
+// Where a view starts in the file and how long it is, both 0 when refused: 67, 63, or 0.
+#[unsafe(no_mangle)]
+pub extern "C" fn glb_view(file: &[u8], words: &[u32; 4000], view: u32, place: &mut [u64; 2]) -> u32
+    ensures { (result ≡ view_number_of file.now (tables_of words.now) view)
+        × (place.new ≡ place_of file.now (tables_of words.now) view) }
+{
+    device::glb_view(file, words, view, place)
+}
+
+// The nodes of a scene into a lent list, and how many they are: 64, 66, 65, or 0.
+#[unsafe(no_mangle)]
+pub extern "C" fn glb_walk(
+    words: &[u32; 4000],
+    scene: u32,
+    list: &mut [u16],
+    count: &mut u32,
+) -> u32
+    ensures { (result ≡ (walk_of (tables_of words.now) scene list.old).walked.number)
+        × (count.new ≡ (walk_of (tables_of words.now) scene list.old).walked.count)
+        × (list.new ≡ (walk_of (tables_of words.now) scene list.old).list) }
+{
+    device::glb_walk(words, scene, list, count)
+}
