@@ -1,6 +1,7 @@
 -- `nav::scalars::is_word` meets its contract.
 -- Assumes nothing.
 use native.Mathlib.Omega.{arith}
+use borrow.Author.Rules.{rules}
 use mathlib.Core.Path.{refl, sym, ◌∙◌}
 use Rattle.nav.proofs.Spellings.{plains_on, plains_off, plains_end}
 use Rattle.nav.proofs.scalars.is_word.Goals as goal
@@ -17,7 +18,7 @@ loop-k-smaller c = omega arith
 pub loop-k-preserved : goal.loop-k-preserved
 loop-k-preserved c =
     let e = plains_on c.args.word.now
-    c.loop-k.k (omega arith) c.is_plain.ensures c.if-is_plain.true in
+    c.loop-k.k (omega arith) c.is_plain.ensures (search rules) in
     (omega arith, c.loop-k.invariant.1 ∙ e)
 
 pub returns-else-is_plain : goal.returns-else-is_plain
