@@ -1,4 +1,6 @@
 // What the JSON text says: its read members as records, its nodes and scenes as lists (rules 9 to 18).
+#![tactic(auto)]
+
 ghost use Rattle.std.specs.Prelude.{◌≡◌};
 ghost use Rattle.document.specs.Said.{document_of};
 

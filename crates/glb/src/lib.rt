@@ -1,4 +1,6 @@
 // `check`: the verdict, item and tables of any bytes, rules 1 to 47.
+#![tactic(auto)]
+
 ghost use Rattle.std.specs.Prelude.{◌≡◌, ◌<◌};
 ghost use Rattle.glb.specs.Check.{refused, placed_at, check_document, check_of};
 

@@ -15,11 +15,15 @@ use Rattle.laws.proofs.Search.{any_none}
 use Rattle.graph.specs.Graph.{joined, graph_fault}
 use Rattle.graph.specs.Packing.{list_at, packed_lists, misplaced, packed_fault_of, starts_from, lengths_of}
 
+-- a start for each list, wherever the first starts
+starts-of : (lists : List (List ℕ)) (at : ℕ) → length (starts_from at lists) ≡ length lists
+unfolding starts_from
+starts-of [] at = refl
+starts-of (list ∷ lists) at = ap suc (starts-of lists _)
+
 -- a start for each list
 pub length-starts : (at : ℕ) (lists : List (List ℕ)) → length (starts_from at lists) ≡ length lists
-unfolding starts_from
-length-starts at [] = refl
-length-starts at (list ∷ lists) = ap suc (length-starts _ lists)
+length-starts at lists = starts-of lists at
 
 -- a length for each list
 pub length-lengths : (lists : List (List ℕ)) → length (lengths_of lists) ≡ length lists

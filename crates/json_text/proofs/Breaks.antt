@@ -29,7 +29,6 @@ use Rattle.json_text.specs.Grammar.Members.{mem_last, mem_more}
 use Rattle.json_text.specs.Grammar.Text.{text}
 use Rattle.json_text.specs.Faults.{Fault, Not, NoLit, NoHex, NoEscape, NoChars, NoSome, NoExp, NoTail, NoMagnitude}
 use Rattle.json_text.specs.Faults.{NoScalar, NoName, NoValue, NoElements, NoMember, NoMembers, NoText}
-use Rattle.json_text.specs.Faults.Is.{is}
 use Rattle.json_text.specs.Faults.NoLit.{lit_bad, lit_on}
 use Rattle.json_text.specs.Faults.NoHex.{hex_bad, hex_on}
 use Rattle.json_text.specs.Faults.NoEscape.{esc_bad, esc_in_hex}

@@ -8,7 +8,7 @@ use mathlib.Core.List.{List, ◌∷◌}
 use Rattle.json_text.specs.Tree.{Json, Values, Fields, depth, depths, depths_of}
 use Rattle.json_text.specs.Grammar.{IsWs, Lit, Digit, Number, Hex, Escape, Chars, Scalar, Name, Value, Elements}
 use Rattle.json_text.specs.Grammar.{Member, Members, Text}
-use Rattle.json_text.specs.Grammar.Lit.{lit_more}
+use Rattle.json_text.specs.Grammar.Lit.{lit_none, lit_more}
 use Rattle.json_text.specs.Grammar.Int.{int_zero, int_more}
 use Rattle.json_text.specs.Grammar.Magnitude.{magnitude}
 use Rattle.json_text.specs.Grammar.Number.{num_plain, num_minus}
@@ -46,7 +46,7 @@ use Rattle.json_text.specs.Faults.NoMember.{member_in_name, member_in_value}
 use Rattle.json_text.specs.Faults.NoMembers.{mem_in, mem_after, mem_on}
 use Rattle.json_text.specs.Faults.NoText.{text_in, text_after}
 use Rattle.json_text.specs.Numbers.{number_not, to_of, no_mag, mag_minus}
-use Rattle.json_text.proofs.Unique.{heads, hex_byte, at_comma, at_bracket, comma_after, brace_after, at_end, solid}
+use Rattle.json_text.proofs.Unique.{heads, tails, hex_byte, at_comma, at_bracket, comma_after, brace_after, at_end, solid}
 use Rattle.json_text.proofs.Unique.{value_no_ws, elements_no_ws, members_no_ws, scalar_bracket, scalar_brace}
 use Rattle.json_text.proofs.Unique.{ws_unique, escape_unique, chars_unique, name_unique, same_comma, comma_bracket}
 use Rattle.json_text.proofs.Unique.{comma_brace, value_unique, member_unique}
@@ -64,17 +64,25 @@ higher : {f : Fault} {n d e : ℕ} → d ≤ e → Wrong f n d → Wrong f n e
 higher l (deeper h) = deeper (le_trans h l)
 
 -- a literal word that breaks off cannot be read
+no_word : {ks ls w r a : List ℕ} {f : Fault} → ks ≡ ls → NoLit ks w f r → Lit ls w a → ⊥
+no_word e (lit_bad n) lit_none = let z : ◌≡◌ {A = ℕ} 0 1 = cc in omega arith
+no_word e (lit_bad (not_head f)) (lit_more h) = f (rw (heads e) is)
+no_word e (lit_on k) lit_none = let z : ◌≡◌ {A = ℕ} 0 1 = cc in omega arith
+no_word e (lit_on k) (lit_more h) = no_word (tails e) k h
+
+-- so one word cannot
 pub no_lit : {ks w r a : List ℕ} {f : Fault} → NoLit ks w f r → Lit ks w a → ⊥
-no_lit (lit_bad (not_head f)) (lit_more h) = f is
-no_lit (lit_on k) (lit_more h) = no_lit k h
+no_lit k h = no_word refl k h
 
 -- a run of hexadecimal digits that breaks off cannot be read
 no_hex : {n : ℕ} {w ds r a : List ℕ} {f : Fault} → NoHex n w f r → Hex n w ds a → ⊥
+no_hex (hex_bad not_end) h = elim h [ ]
 no_hex (hex_bad (not_head f)) (hex_more d h) = f d
 no_hex (hex_on e k) (hex_more d h) = no_hex k h
 
 -- an escape that breaks off cannot be read
 pub no_escape : {w es r a : List ℕ} {f : Fault} → NoEscape w f r → Escape w es a → ⊥
+no_escape (esc_bad not_end) h = elim h [ ]
 no_escape (esc_bad (not_head f)) (esc_byte e) = f (escapes_byte e)
 no_escape (esc_bad (not_head f)) (esc_hex h) = f escapes_hex
 no_escape (esc_in_hex k) (esc_byte e) = hex_byte e
@@ -82,6 +90,7 @@ no_escape (esc_in_hex k) (esc_hex h) = no_hex k h
 
 -- the rest of a string that breaks off cannot be read
 pub no_chars : {w cs r a : List ℕ} {f : Fault} → NoChars w f r → Chars w cs a → ⊥
+no_chars (chars_bad not_end) h = elim h [ ]
 no_chars (chars_bad (not_head f)) chars_close = f in_close
 no_chars (chars_bad (not_head f)) (chars_plain p h) = f (in_plain p)
 no_chars (chars_bad (not_head f)) (chars_escape e h) = f in_escape
@@ -133,6 +142,7 @@ no_scalar (sc_in_string k) (sc_string h) m = no_chars k h
 
 -- a member's name that breaks off cannot be read
 pub no_name : {w k r a : List ℕ} {f : Fault} → NoName w f r → Name w k a → ⊥
+no_name (name_bad not_end) h = elim h [ ]
 no_name (name_bad (not_head f)) (name h x y) = f is
 no_name (name_in k) (name h x y) = no_chars k h
 no_name (name_after c w n f) (name h x y) =

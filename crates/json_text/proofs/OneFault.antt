@@ -8,7 +8,7 @@ use mathlib.Core.List.{List}
 use Rattle.json_text.specs.Faults.{Fault, NoLit, NoHex, NoEscape, NoChars, NoSome, NoExp, NoTail, NoMagnitude}
 use Rattle.json_text.specs.Faults.{NoScalar, NoName, NoValue, NoElements, NoMember, NoMembers, NoText}
 use Rattle.json_text.specs.Faults.Fault.{broke}
-use Rattle.json_text.specs.Faults.Not.{not_head}
+use Rattle.json_text.specs.Faults.Not.{not_end, not_head}
 use Rattle.json_text.specs.Faults.Is.{is}
 use Rattle.json_text.specs.Faults.Starts.{starts_null, starts_true, starts_false, starts_minus, starts_string}
 use Rattle.json_text.specs.Faults.Starts.{starts_number}
@@ -33,7 +33,7 @@ use Rattle.json_text.specs.Faults.NoMember.{member_in_name, member_in_value}
 use Rattle.json_text.specs.Faults.NoMembers.{mem_in, mem_after, mem_on}
 use Rattle.json_text.specs.Faults.NoText.{text_in, text_after}
 use Rattle.json_text.specs.Numbers.{int_unique, frac_unique, no_some}
-use Rattle.json_text.proofs.Unique.{value_no_ws, ws_unique, escape_unique, chars_unique, name_unique, solid}
+use Rattle.json_text.proofs.Unique.{heads, tails, value_no_ws, ws_unique, escape_unique, chars_unique, name_unique, solid}
 use Rattle.json_text.proofs.Unique.{same_comma, value_unique, member_unique}
 use Rattle.json_text.proofs.Excluded.{Wrong, no_escape, no_chars, no_name, not_comma, follows_no_ws, not_is, no_value}
 use Rattle.json_text.proofs.Excluded.{no_member}
@@ -53,11 +53,15 @@ at : {r q : List ℕ} → r ≡ q → Same broke broke r q
 at e = record { kind = refl; place = e }
 
 -- a literal word breaks off at one place
+same_word : {ks ls w r q : List ℕ} {f g : Fault} → ks ≡ ls → NoLit ks w f r → NoLit ls w g q → Same f g r q
+same_word e (lit_bad n) (lit_bad m) = same
+same_word e (lit_bad (not_head n)) (lit_on k) = absurd (n (rw (heads e) is))
+same_word e (lit_on h) (lit_bad (not_head m)) = absurd (m (rw (← heads e) is))
+same_word e (lit_on h) (lit_on k) = same_word (tails e) h k
+
+-- so one word does
 pub lit_same : {ks w r q : List ℕ} {f g : Fault} → NoLit ks w f r → NoLit ks w g q → Same f g r q
-lit_same (lit_bad n) (lit_bad m) = same
-lit_same (lit_bad (not_head n)) (lit_on k) = absurd (n is)
-lit_same (lit_on h) (lit_bad (not_head m)) = absurd (m is)
-lit_same (lit_on h) (lit_on k) = lit_same h k
+lit_same h k = same_word refl h k
 
 -- a run of hexadecimal digits breaks off at one place
 hex_same : {n : ℕ} {w r q : List ℕ} {f g : Fault} → NoHex n w f r → NoHex n w g q → Same f g r q
@@ -115,6 +119,8 @@ tail_same (tail_in_exp y h) (tail_in_exp z k) = exp_same h (rw (← (frac_unique
 -- a number without its sign breaks off at one place
 mag_same : {w r q : List ℕ} {f g : Fault} → NoMagnitude w f r → NoMagnitude w g q → Same f g r q
 mag_same (mag_bad n) (mag_bad m) = same
+mag_same (mag_bad not_end) (mag_in_tail z k) = elim z [ ]
+mag_same (mag_in_tail z h) (mag_bad not_end) = elim z [ ]
 mag_same (mag_bad (not_head n)) (mag_in_tail to_int_zero k) = absurd (n (omega arith))
 mag_same (mag_bad (not_head n)) (mag_in_tail (to_int_more d y z) k) = absurd (n (omega arith))
 mag_same (mag_in_tail to_int_zero h) (mag_bad (not_head m)) = absurd (m (omega arith))

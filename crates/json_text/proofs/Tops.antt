@@ -10,7 +10,7 @@ use lib.Seq.{take_at, drop_at, take-suc, drop-cons}
 use Rattle.json_text.specs.Tree.{Json, Fields}
 use Rattle.json_text.specs.Grammar.{IsWs, Ws, Value, Text}
 use Rattle.json_text.specs.Grammar.Ws.{ws_none}
-use Rattle.json_text.specs.Grammar.Value.{val_object0, val_object}
+use Rattle.json_text.specs.Grammar.Value.{val_scalar, val_object0, val_object}
 use Rattle.json_text.specs.Grammar.Text.{text}
 use Rattle.json_text.specs.Faults.{Not, Is, NoText}
 use Rattle.json_text.specs.Faults.Fault.{broke}
@@ -22,6 +22,7 @@ use Rattle.json_text.proofs.Breaks.{text_breaks, filled}
 
 -- an object starts with {
 object_first : {w r : List ℕ} {ms : Fields} → Value w (Json.object ms) r → (v : List ℕ) × (w ≡ 0x7b ∷ v)
+object_first (val_scalar h) = elim h [ ]
 object_first (val_object0 a) = (_, refl)
 object_first (val_object a h) = (_, refl)
 

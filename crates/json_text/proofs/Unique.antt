@@ -207,9 +207,15 @@ ws_unique (ws_more w h) m ws_none (not_head f) = absurd (f w)
 ws_unique (ws_more w h) m (ws_more v k) n = ws_unique h m k n
 
 -- a literal word is read in one way
+lit_same_word : {ks ls w a b : List ℕ} → ks ≡ ls → Lit ks w a → Lit ls w b → a ≡ b
+lit_same_word e lit_none lit_none = refl
+lit_same_word e lit_none (lit_more k) = absurd (let z : ◌≡◌ {A = ℕ} 0 1 = cc in omega arith)
+lit_same_word e (lit_more h) lit_none = absurd (let z : ◌≡◌ {A = ℕ} 0 1 = cc in omega arith)
+lit_same_word e (lit_more h) (lit_more k) = lit_same_word (tails e) h k
+
+-- so one word is
 pub lit_unique : {ks w a b : List ℕ} → Lit ks w a → Lit ks w b → a ≡ b
-lit_unique lit_none lit_none = refl
-lit_unique (lit_more h) (lit_more k) = lit_unique h k
+lit_unique h k = lit_same_word refl h k
 
 -- a run of hexadecimal digits is read in one way
 hex_unique : {n : ℕ} {w ds es a b : List ℕ} → Hex n w ds a → Hex n w es b → (ds ≡ es) × (a ≡ b)

@@ -274,6 +274,7 @@ number_ends (num_minus h) n = to_minus (mag_ends h n)
 
 -- where a number breaks off there is none
 pub no_some : {w ds r a : List ℕ} {f : Fault} → NoSome w f r → SomeTo w ds a → ⊥
+no_some (some_bad not_end) h = elim h [ ]
 no_some (some_bad (not_head g)) (to_some d h n) = g d
 
 -- an exponent that breaks off is none

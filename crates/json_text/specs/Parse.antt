@@ -1,6 +1,6 @@
 -- A parser that computes, with its reasons.
 -- Assumes nothing.
-use Rattle.std.specs.Prelude.{◌+◌, ◌*◌, ℕ, zero, suc, ◌≤◌, ◌≡◌, refl, List, [], ◌∷◌, ◌++◌, true, false, length}
+use Rattle.std.specs.Prelude.{◌+◌, ◌*◌, ℕ, zero, suc, ◌≤◌, ◌≡◌, refl, List, [], ◌∷◌, ◌++◌, length}
 use Rattle.std.proofs.Common.{arith}
 use Rattle.json_text.specs.Tree.{Json, Values, Fields, depth, depths, depths_of}
 use Rattle.json_text.specs.Grammar.{IsWs, Ws, Lit, Digit, Digits, IsE, IsSign, IsEscape, Chars, Scalar, Text, HexDigit}

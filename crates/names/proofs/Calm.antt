@@ -15,7 +15,7 @@ use Rattle.json_text.specs.Strings.{to_close}
 use Rattle.names.specs.Strings.{slashed}
 use Rattle.names.specs.Order.{Names}
 use Rattle.names.specs.Names.{plan12, State, bracketed, outside_step, step, run, answer, escaped_by, escaped_of}
-use Rattle.names.specs.Names.State.{going}
+use Rattle.names.specs.Names.State.{going, stopped, full}
 use Rattle.names.proofs.Strings.{slashed_take}
 
 -- the search of rule 12 goes on, and the last string has no backslash
@@ -41,6 +41,8 @@ calm_step : (b : ℕ) (w : List ℕ) (t : State) → Calm t → slashed w ≡ fa
 calm_step b w (going outside l n p c o) (calm e) f = calm_outside (kind b) b w l n p c o e f
 calm_step b w (going inside l n p c o) (calm e) f = calm e
 calm_step b w (going hidden l n p c o) (calm e) f = calm e
+calm_step b w (stopped _ _) x f = elim x [ ]
+calm_step b w full x f = elim x [ ]
 
 calm_run : (t : State) (w : List ℕ) → Calm t → slashed w ≡ false → Calm (run plan12 t w)
 unfolding run slashed
@@ -51,6 +53,8 @@ calm_run t (b ∷ w) x f =
 
 calm_answer : (s : List ℕ) (t : State) → Calm t → Plain ≡ escaped_by (answer s t)
 calm_answer s (going m l n p c o) (calm e) = refl
+calm_answer s (stopped _ _) x = elim x [ ]
+calm_answer s full x = elim x [ ]
 
 -- rule 12 finds nothing
 pub plain_without : (s : List ℕ) → slashed s ≡ false → Plain ≡ escaped_of s

@@ -58,6 +58,7 @@ again_of (stops_later x) = later (again_of x) where
 twice_of : {ms : Fields} → Stops has [] ms → Twice ms
 twice_of x = go (again_of x) where
   go : {ms : Fields} → Again [] ms → Twice ms
+  go (again_earlier m n) = elim m [ ]
   go (again_twice t) = t
 
 -- .. and one that is there again stops it

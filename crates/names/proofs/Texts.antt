@@ -116,6 +116,6 @@ pub text_names : (plan : Plan) (n : ℕ) {s : List ℕ} {j : Json} (d : Text s j
 unfolding seek_text run
 text_names plan n {s = s} (text a v b) e =
     said
-    (before s [] 0 [] [] (ws_along a).same
+    (before s [] 0 [] [] (ws_along {x = starting plan s} a).same
     (goes_end (value_goes (length s + 6 * n) (starting plan s) n v e (omega (arith, ws_shorter a)))
-    (λ l n q. (ws_along b).same)))
+    (λ l n q. (ws_along {x = moved (starting plan s) l n q [] []} b).same)))

@@ -1,4 +1,6 @@
 // Rules 12 and 13: the member names of a JSON text, each rule by a pass over its bytes.
+#![tactic(auto)]
+
 ghost use Rattle.std.specs.Prelude.{◌≡◌, false, ◌+◌, ◌≤◌, length, drop, take};
 ghost use Rattle.names.specs.Strings.{slashed, same as same_bytes};
 ghost use Rattle.names.specs.Names.{escaped_of, search_of, repeat_of};

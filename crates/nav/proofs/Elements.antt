@@ -88,5 +88,6 @@ pub array_not : {w : List ℕ} {j : Json} → Not (Is 0x5b) w → Stands w j →
 array_not n t js e = by n (rw e at t.reads)
   where
     by : {w a : List ℕ} {js : Values} → Not (Is 0x5b) w → Value w (Json.array js) a → ⊥
+    by n (val_scalar h) = elim h [ ]
     by n (val_array0 x) = not_is n refl
     by n (val_array x h) = not_is n refl

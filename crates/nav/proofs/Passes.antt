@@ -8,7 +8,7 @@ use lib.ListN.{length, drop}
 use Rattle.nav.specs.declared.members.Places.{Places}
 use Rattle.json_text.specs.Tree.{Json, Fields, depth, depths_of}
 use Rattle.json_text.specs.Grammar.{IsWs, Ws, Name, Value, Members}
-use Rattle.json_text.specs.Grammar.Value.{val_object0, val_object}
+use Rattle.json_text.specs.Grammar.Value.{val_scalar, val_object0, val_object}
 use Rattle.json_text.specs.Grammar.Member.{member}
 use Rattle.json_text.specs.Grammar.Members.{mem_last, mem_more}
 use Rattle.json_text.specs.Faults.{Not, Is}
@@ -287,6 +287,7 @@ past_of (opens x n q) (unshut f) = past_none (λ ms r v d. on x n q f v d)
     on : {w u r : List ℕ} {ms : Fields} → Ws w u → Not IsWs u → Not (Is 0x7d) u →
         ((ms : Fields) (r : List ℕ) → Members u ms r → depths_of ms ≤ 31 → ⊥) → Value (0x7b ∷ w) (Json.object ms) r →
         depth (Json.object ms) ≤ 32 → ⊥
+    on x n q f (val_scalar h) d = elim h [ ]
     on x n q f (val_object0 y) d = not_is q (ws_unique x n y (solid 0x7d (omega arith)))
     on x n q f (val_object y h) d = f _ _ (rw (← ws_unique x n y (members_no_ws h)) at h) (omega arith)
 
@@ -300,5 +301,6 @@ pub past_shut : {s w : List ℕ} → Not (Is 0x7b) w → PastTo s w 0
 past_shut n = past_none (λ ms r v d. on n v)
   where
     on : {w r : List ℕ} {ms : Fields} → Not (Is 0x7b) w → Value w (Json.object ms) r → ⊥
+    on n (val_scalar h) = elim h [ ]
     on n (val_object0 y) = not_is n refl
     on n (val_object y h) = not_is n refl

@@ -21,7 +21,7 @@ use Rattle.json_text.specs.Grammar.Name.{name}
 use Rattle.json_text.specs.Grammar.Scalar.{sc_null, sc_true, sc_false, sc_number, sc_string}
 use Rattle.json_text.specs.Grammar.Value.{val_scalar, val_array0, val_array, val_object0, val_object}
 use Rattle.json_text.specs.Faults.{Fault, Not, Is, SomeTo, NoLit, NoSome}
-use Rattle.json_text.specs.Faults.Not.{not_head}
+use Rattle.json_text.specs.Faults.Not.{not_end, not_head}
 use Rattle.json_text.specs.Faults.Stop.{stop_string}
 use Rattle.json_text.specs.Faults.SomeTo.{to_some}
 use Rattle.json_text.specs.Faults.NoSome.{some_bad}
@@ -256,6 +256,7 @@ pub version_digits_no : {w a r : List ℕ} {f : Fault} → Lit Start w a → NoS
 version_digits_no h k = tells_false (λ v. let x = version_start v in none k (rw (← lit_unique h x.3) at x.4))
   where
     none : {w ds r a : List ℕ} {f : Fault} → NoSome w f r → Some w ds a → ⊥
+    none (some_bad not_end) h = elim h [ ]
     none (some_bad (not_head g)) (some d h) = g d
 
 -- the closing mark is there

@@ -134,9 +134,13 @@ ends_shorter (ends v s l a) = omega (arith, value_shorter v, ws_shorter a)
 pub leads_no_ws : {n : ℕ} {w v : List ℕ} {j : Json} → Leads n w j v → Not IsWs w
 leads_no_ws (leads v s l a b m) = value_no_ws v
 
+-- one way in, of two texts that are one
+opens_same : {b c : ℕ} {w z u v : List ℕ} → w ≡ z → Opens b c w u → Opens b c z v → u ≡ v
+opens_same e (opens a m q) (opens a' m' q') = ws_unique (rw (tails e) at a) m a' m'
+
 -- one way in
 pub opens_unique : {b c : ℕ} {w u v : List ℕ} → Opens b c w u → Opens b c w v → u ≡ v
-opens_unique (opens a m q) (opens a' m' q') = ws_unique a m a' m'
+opens_unique x y = opens_same refl x y
 
 -- what opens leaves less of the text
 pub opens_shorter : {b c : ℕ} {w v : List ℕ} → Opens b c w v → length v < length w
@@ -144,11 +148,16 @@ opens_shorter (opens x m q) = omega (arith, ws_shorter x)
 
 -- no bracket, no way in
 pub shut_none : {b c : ℕ} {w v : List ℕ} → Not (Is b) w → Opens b c w v → ⊥
+shut_none not_end x = elim x [ ]
 shut_none (not_head f) (opens a m q) = f is
 
 -- nor where the closing bracket comes first
+empty_from : {b c : ℕ} {w z r v : List ℕ} → 0x20 < c → z ≡ b ∷ w → Ws w (c ∷ r) → Opens b c z v → ⊥
+empty_from {c = c} h e x (opens a m q) = not_is q (ws_unique (rw (tails e) at a) m x (solid c h))
+
+-- the same of that text itself
 pub empty_none : {b c : ℕ} {w r v : List ℕ} → 0x20 < c → Ws w (c ∷ r) → Opens b c (b ∷ w) v → ⊥
-empty_none {c = c} h x (opens a m q) = not_is q (ws_unique a m x (solid c h))
+empty_none h x y = empty_from h refl x y
 
 -- the answers of `next`, taken apart
 module _ {s w : List ℕ} {n c q : ℕ} where

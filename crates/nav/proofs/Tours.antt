@@ -126,11 +126,14 @@ module _ {s : List ℕ} where
   tour_all : {w r : List ℕ} {ms : Fields} {x : Step} {o : Member} → OpenTo s w 0x7b 0x7d x → NamedTo s x o →
       Value w (Json.object ms) r → depth (Json.object ms) ≤ 32 → Tour s r o ms
   unfolding depth
+  tour_all (open_more l (opens x n f)) m (val_scalar h) d = elim h [ ]
   tour_all (open_more l (opens x n f)) m (val_object0 y) d = absurd (not_is f (ws_unique x n y (solid 0x7d (omega arith))))
   tour_all (open_more l (opens x n f)) m (val_object y h) d =
       tour_from h (ws_unique y (members_no_ws h) x n) (omega arith) m
+  tour_all (open_end l e x) m (val_scalar h) d = elim h [ ]
   tour_all (open_end l e x) named_end (val_object0 y) d = tour_end l (same_brace x (rw (tails e) at y))
   tour_all (open_end l e x) m (val_object y h) d = absurd (no_members x (rw (tails e) at y) h)
+  tour_all (open_bad f) m (val_scalar h) d = elim h [ ]
   tour_all (open_bad f) m (val_object0 y) d = absurd (not_is f refl)
   tour_all (open_bad f) m (val_object y h) d = absurd (not_is f refl)
 

@@ -1,5 +1,7 @@
 // A JSON text read at places, with no tree: what stands there, and steps through an array.
 // Every function takes any bytes and any place; a place past the end reads as the end.
+#![tactic(auto)]
+
 ghost use Rattle.std.specs.Prelude.{◌≡◌, ◌<◌, drop};
 ghost use Rattle.json_text.specs.Answer.{first};
 ghost use Rattle.nav.specs.Places.{start_of};

@@ -1,4 +1,6 @@
 // The walk of a scene, numbers 64 to 66: the nodes at or under its roots, written into a lent list.
+#![tactic(auto)]
+
 ghost use Rattle.std.specs.Prelude.{◌≡◌};
 ghost use Rattle.scene.specs.Walk.{walk_of};
 

@@ -1,50 +1,45 @@
 -- The answer for a chunk is exact: the smallest rule of 9 to 13 that is broken, with the place where it is.
 -- Assumes nothing.
-use Prim.Native.Nat.{ℕ, ◌+◌, ◌≤◌, ◌<◌}
+use Prim.Native.Nat.{ℕ, ◌≤◌, ◌<◌}
 use mathlib.Core.Path.{◌≡◌, refl, sym, ap, subst}
 use mathlib.Core.Bool.{Bool, true, false}
 use mathlib.Core.List.{List, []}
 use native.Mathlib.Omega.{arith}
 use borrow.Author.Tests.{ltb-true, ltb-false, le-ltb}
 use lib.Dec.{ltb}
-use lib.ListN.{length, take}
-use Rattle.laws.proofs.Tests.{by_test}
+use lib.ListN.{length}
 use Rattle.utf8.specs.declared.Utf8.{Utf8}
-use Rattle.utf8.specs.declared.Utf8.TheVariants.{Whole, Ends}
 use Rattle.utf8.specs.Rfc3629.{Octets}
 use Rattle.utf8.specs.Utf8.{utf8_of}
 use Rattle.utf8.specs.Exact.{Utf8Says}
 use Rattle.utf8.specs.Exact.Utf8Says.{says_whole, says_ends}
 use Rattle.utf8.proofs.Exact.{utf8_exact}
 use Rattle.json_text.specs.declared.Nesting.{Nesting}
-use Rattle.json_text.specs.declared.Nesting.TheVariants.{Within, Passes}
+use Rattle.json_text.specs.declared.Nesting.TheVariants.{Within}
 use Rattle.json_text.specs.declared.answer.Scan.{Scan}
-use Rattle.json_text.specs.declared.answer.Scan.TheVariants.{Past, Broke, Deep}
 use Rattle.json_text.specs.Tree.{Json, Fields, depth}
 use Rattle.json_text.specs.Grammar.{Text}
 use Rattle.json_text.specs.Depth.{peak, depth_of}
 use Rattle.json_text.specs.Depth.Mode.{outside}
 use Rattle.json_text.specs.Answer.{scan_of}
-use Rattle.json_text.specs.Check.{Counted, Checked, Longest}
+use Rattle.json_text.specs.Check.{Counted, Checked}
 use Rattle.json_text.specs.Check.Counted.{counted_within, counted_passes}
 use Rattle.json_text.specs.Check.Checked.{checked_past, checked_broke, checked_deep}
 use Rattle.json_text.proofs.Exact.{depth_exact, depth_within, scan_exact, text_unique}
-use Rattle.names.specs.declared.Escaped.{Escaped}
-use Rattle.names.specs.declared.Escaped.TheVariants.{Plain, Holds}
 use Rattle.names.specs.declared.Search.{Search}
 use Rattle.names.specs.declared.Search.TheVariants.{Clear, Repeats, Full}
 use Rattle.names.specs.Rules.{Breaks12, Breaks13}
 use Rattle.names.specs.Order.Out.{on, found}
 use Rattle.names.specs.Order.{Out, escapes, has, seek_text, place}
-use Rattle.names.specs.Names.{escaped_of, escaped_by, repeat_of}
+use Rattle.names.specs.Names.{escaped_by, repeat_of}
 use Rattle.names.specs.Exact.{Rule12, Rule13}
 use Rattle.names.specs.Exact.Rule12.{holds12, breaks12}
 use Rattle.names.specs.Exact.Rule13.{holds13, breaks13}
 use Rattle.names.proofs.Rule12 as r12
 use Rattle.names.proofs.Rule13 as r13
 use Rattle.text.specs.declared.Fault.{Fault}
-use Rattle.text.specs.Rules.{fault, by9, by10, by11, by12, by13, name_fault, text_of}
-use Rattle.text.specs.Meaning.{Broken, BrokenAt, Exact}
+use Rattle.text.specs.Rules.{by9, by10, by11, by12, by13, name_fault, text_of}
+use Rattle.text.specs.Meaning.{Broken, Exact}
 use Rattle.text.specs.Meaning.Broken.{rule9, rule10, rule11, rule12, rule13}
 use Rattle.text.specs.Meaning.BrokenAt.{at9, at10, at11, at12, at13}
 use Rattle.text.specs.Meaning.Exact.{accepted, refused}
@@ -105,6 +100,7 @@ clean_all s ms c x none n (rule13 d f) = none (subst Breaks13 (text_unique d x) 
 by13_exact : (s : List ℕ) (ms : Fields) (x : Text s (Json.object ms)) → depth (Json.object ms) ≤ 32 → Clean s 13
     → (u : Search) → u ≡ place s (seek_text has x) → Rule13 (Json.object ms) u → Exact s (by13 u)
 by13_exact s ms x l c (Clear q) o (holds13 f) = accepted x l (clean_all s ms c x f)
+by13_exact s ms x l c Full o h = elim h [ ]
 by13_exact s ms x l c (Repeats p q) o (breaks13 f) = refused (rule13 x f) c (at13 x (sym o))
 
 -- rule 12, and then rule 13

@@ -1,4 +1,6 @@
 // The JSON chunk as a whole: rules 9 to 13.
+#![tactic(auto)]
+
 ghost use Rattle.std.specs.Prelude.{◌≡◌};
 ghost use Rattle.text.specs.Rules.{name_fault, grammar_fault, text_of};
 
