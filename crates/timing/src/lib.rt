@@ -1,4 +1,6 @@
 // Functions that tools/timing calls from C, through `timing_c`, to time the library from outside.
+#![tactic(auto)]
+
 ghost use Rattle.std.specs.Prelude.{◌≡◌};
 ghost use Rattle.text.specs.Rules.{text_of};
 ghost use Rattle.container.specs.Rules.{container_of};
