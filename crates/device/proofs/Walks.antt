@@ -7,7 +7,7 @@ use native.Mathlib.Nat.{one-mul, mul-suc, mul-le-mul_left}
 use native.Mathlib.Omega.{arith}
 use borrow.Author.Tests.{ltb-true, ltb-false}
 use lib.Dec.{ltb}
-use lib.ListN.{drop, length, get_or-eq_default}
+use lib.ListN.{drop, get_or-eq_default}
 use lib.Seq.{get_or-drop}
 use Rattle.laws.proofs.Tests.{by_test}
 use Rattle.tables.specs.declared.List.{List}
@@ -15,7 +15,7 @@ use Rattle.tables.specs.declared.Tables.{Tables}
 use Rattle.scene.specs.Lists.{starts_of, lengths_of}
 use Rattle.scene.specs.Walk.{Outcome, walk_of}
 use Rattle.scene.specs.Steps.{walk_packed}
-use Rattle.scene.specs.Meaning.{Sized, Unfit, Answer}
+use Rattle.scene.specs.Meaning.{Sized, Answer}
 use Rattle.scene.specs.Meaning.Unfit.{nodes as too_many}
 use Rattle.scene.specs.Meaning.Answer.{no_scene, unfit, short, walked}
 use Rattle.scene.proofs.Exact.{walk_exact}

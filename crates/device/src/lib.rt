@@ -1,5 +1,7 @@
 // What the C interface calls, through `device_c`: check, and readings over tables that are 4,000 words. glb.h has the layout and
 // says what is lent.
+#![tactic(auto)]
+
 ghost use Rattle.std.specs.Prelude.{◌≡◌};
 ghost use Rattle.access.specs.Readings.{component_of};
 ghost use Rattle.access.specs.Views.{view_number_of};
