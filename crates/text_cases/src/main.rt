@@ -1,8 +1,14 @@
 // Reads texts from standard input, one to a line, with ~hh for a byte by its two hexadecimal digits, and writes for each the
 // smallest of the rules 9 to 13 that it breaks and the place.
+#![tactic(auto)]
+
 ghost use Rattle.std.specs.Prelude.{◌≤◌, ◌<◌, length};
 
-use libc::{STDIN_FILENO, STDOUT_FILENO};
+use std::io;
+use std::io::{Read, Write};
+
+// The most bytes that are read.
+const MOST: u64 = 65536;
 
 // Where the line that starts at `at` ends: its newline, or the end of the input.
 fn line_end(s: &[u8], at: usize) -> usize
@@ -59,27 +65,27 @@ fn spelled(line: &[u8], text: &mut [u8]) -> usize
     n
 }
 
-fn report(text: &[u8]) {
+fn report(text: &[u8], out: &mut impl Write) -> io::Result<()> {
     let fault = text::check(text);
-    io::print_decimal(STDOUT_FILENO, fault.number as u64);
-    io::write_all(STDOUT_FILENO, b" ");
-    io::print_decimal(STDOUT_FILENO, fault.place as u64);
-    io::write_all(STDOUT_FILENO, b"\n");
+    let number = fault.number;
+    let place = fault.place;
+    writeln!(out, "{number} {place}")
 }
 
-fn report_all(s: &[u8]) {
+fn report_all(s: &[u8], out: &mut impl Write) -> io::Result<()> {
     let mut text = [0u8; 1024];
     let mut at = 0;
     while at < s.len() {
         let end = line_end(s, at);
         let n = spelled(&s[at..end], &mut text);
-        report(&text[..n]);
+        report(&text[..n], out)?;
         at = end + 1;
     }
+    Ok(())
 }
 
-fn main() {
-    let mut buffer = io::large_buffer();
-    let n = io::read_full(STDIN_FILENO, &mut buffer);
-    report_all(&buffer[..n]);
+fn main(rt: HostRuntime) -> io::Result<()> {
+    let mut input = Vec::new(rt.alloc());
+    rt.stdin().take(MOST).read_to_end(&mut input)?;
+    report_all(&input, &mut rt.stdout())
 }
