@@ -1,4 +1,5 @@
 -- `glb::check_document` meets its contract. Assumes nothing.
+use borrow.Author.Rules.{rules}
 use borrow.Author.Tests.{eq-eqb, ne_eqb}
 use Rattle.glb.specs.Check.{check_document}
 use Rattle.glb.proofs.check_document.Goals as goal
@@ -16,7 +17,7 @@ returns-then-found-ne0 c =
       ← c.late_rule-found.ensures,
       ne_eqb _ 0 c.if-found-ne0.true,
     )
-    c.refuse-then-found-ne0.ensures
+    (search rules)
 
 pub returns : goal.returns
 unfolding check_document
