@@ -16,14 +16,14 @@ use Rattle.graph.specs.Graph.{joined, graph_fault}
 use Rattle.graph.specs.Packing.{list_at, packed_lists, misplaced, packed_fault_of, starts_from, lengths_of}
 
 -- a start for each list, wherever the first starts
-starts-of : (lists : List (List ℕ)) (at : ℕ) → length (starts_from at lists) ≡ length lists
+starts_length : (lists : List (List ℕ)) (at : ℕ) → length (starts_from at lists) ≡ length lists
 unfolding starts_from
-starts-of [] at = refl
-starts-of (list ∷ lists) at = ap suc (starts-of lists _)
+starts_length [] at = refl
+starts_length (list ∷ lists) at = ap suc (starts_length lists _)
 
 -- a start for each list
 pub length-starts : (at : ℕ) (lists : List (List ℕ)) → length (starts_from at lists) ≡ length lists
-length-starts at lists = starts-of lists at
+length-starts at lists = starts_length lists at
 
 -- a length for each list
 pub length-lengths : (lists : List (List ℕ)) → length (lengths_of lists) ≡ length lists

@@ -7,7 +7,7 @@ use Rattle.laws.proofs.Lists.{get_or_any}
 use Rattle.utf8.proofs.peek.Goals as goal
 
 pub overflow_cast-result : goal.overflow_cast-result
-overflow_cast-result c = omega (arith, c.shared_slice_known-1.given c.args.at)
+overflow_cast-result c = omega (arith, c.type_inv.s c.args.at)
 
 pub returns-then-at-s : goal.returns-then-at-s
 returns-then-at-s c = let a = c.args in get_or_any a.s.now a.at 0 256 (omega arith)

@@ -10,21 +10,21 @@ returns-then-size-eq1 c =
     let a = c.args in
     let e : c.one.result ≡ little_at a.file.now a.at a.size =
     rw (c.if-size-eq1.true, little_at_one a.file.now a.at) c.one.ensures in
-    (e, rw e (little_at_lt a.file.now (λ j. (c.shared_slice_known-then-size-eq1-1.given j).fits) a.at a.size))
+    (e, rw e (little_at_lt a.file.now (λ j. (c.type_inv.file j).fits) a.at a.size))
 
 pub returns-then-size-eq2 : goal.returns-then-size-eq2
 returns-then-size-eq2 c =
     let a = c.args in
     let e : c.two.result ≡ little_at a.file.now a.at a.size =
     rw (c.if-size-eq2.true, little_at_two a.file.now a.at) c.two.ensures in
-    (e, rw e (little_at_lt a.file.now (λ j. (c.shared_slice_known-then-size-eq2-2-1.given j).fits) a.at a.size))
+    (e, rw e (little_at_lt a.file.now (λ j. (c.type_inv.file j).fits) a.at a.size))
 
 pub returns-then-size-eq4 : goal.returns-then-size-eq4
 returns-then-size-eq4 c =
     let a = c.args in
     let e : c.four.result ≡ little_at a.file.now a.at a.size =
     rw (c.if-size-eq4.true, little_at_four a.file.now a.at) c.four.ensures in
-    (e, rw e (little_at_lt a.file.now (λ j. (c.shared_slice_known-then-size-eq4-4-1.given j).fits) a.at a.size))
+    (e, rw e (little_at_lt a.file.now (λ j. (c.type_inv.file j).fits) a.at a.size))
 
 pub returns : goal.returns
 returns c =

@@ -27,7 +27,7 @@ loop-left-preserved c =
     let a = c.args in
     let e : c.loop-left.n * 256 + c.byte_at-byte.result ≡ little_at a.file.now (a.at + (c.loop-left.left - 1)) (a.size - (c.loop-left.left - 1)) =
     rw (c.byte_at-byte.ensures, c.loop-left.invariant.1) (little_at-more a.file.now a.at a.size c.loop-left.left (omega arith) (omega arith)) in
-    (omega arith, e, rw e (little_at_lt a.file.now (λ j. (c.shared_slice_known-1.given j).fits) _ _))
+    (omega arith, e, rw e (little_at_lt a.file.now (λ j. (c.type_inv.file j).fits) _ _))
 
 pub returns : goal.returns
 returns c =
