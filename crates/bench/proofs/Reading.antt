@@ -1,21 +1,12 @@
--- What is read piece by piece, and that the first 65,537 bytes of an input decide its answer. Assumes nothing.
-use Rattle.std.specs.Prelude.{◌≡◌, ℕ, ◌+◌, ◌≤◌, ◌<◌, Option, None, Some, Result, Ok, Err, IfSome, OnOk, List, ◌++◌, length, take}
-use Rattle.std.proofs.Common.{refl, sym, ap, ◌∙◌, subst, inl, inr, arith}
-use Rattle.std.proofs.lemmas.List.{length-append, length-take-le, take-append-le}
+-- That the first 65,537 bytes of an input decide its answer. Assumes nothing.
+use Rattle.std.specs.Prelude.{◌≡◌, ℕ, ◌≤◌, ◌<◌, Option, None, Some, IfSome, List, length, take}
+use Rattle.std.proofs.Common.{refl, sym, ◌∙◌, subst, inl, inr, arith}
+use Rattle.std.proofs.lemmas.List.{length-append, length-take-le}
 use Rattle.std.proofs.Math.Nat.{eq-or-lt_of_le}
-use Rattle.std.proofs.Math.Seq.{take-append-add}
 use Rattle.std.specs.Io.KnownBytes.{Appends, Consumes, IsAtEnd}
 use Rattle.std.proofs.KnownBytes.{Consumes-whole}
-use borrow.Rule.Slice.PartMut.{put_mid, post_of}
 use Rattle.bench.specs.Bench.{answer_of}
 use Rattle.bench.proofs.Answers.{answer_long}
-
--- n bytes that a read put at place a stand behind those before it
-pub behind : (a k n : ℕ) (old part : List ℕ) → a ≤ length old → n ≤ length part → take a old ++ take n part ≡ take (a + n) (put_mid a k old part)
-behind a k n old part h f =
-    ap (λ l. take a old ++ l) (sym (take-append-le n part (post_of a k old) f))
-    ∙ sym (take-append-add (take a old) (part ++ post_of a k old) n)
-    ∙ ap (λ m. take (m + n) (put_mid a k old part)) (length-take-le a old h)
 
 -- more than 65,536 bytes came: the message, whatever follows them
 long : (a b : Option (List ℕ)) (bs : List ℕ) → 65536 < length bs → Consumes a b bs → IfSome a (λ file. answer_of bs ≡ answer_of file)
@@ -37,8 +28,7 @@ read_answer a b n buffer l h p end =
     ]
 
 -- what was written for these bytes was written for the input
-pub answer_kept : {T E : Type 0} (r : Result T E) (a old new : Option (List ℕ)) (bs : List ℕ)
-    → IfSome a (λ file. answer_of bs ≡ answer_of file) → OnOk r (Appends old new (answer_of bs)) → OnOk r (IfSome a (λ file. Appends old new (answer_of file)))
-answer_kept (Err e) a old new bs s w = tt
-answer_kept (Ok v) None old new bs s w = tt
-answer_kept (Ok v) (Some file) old new bs s w = subst (Appends old new) s w
+pub answer_kept : (a old new : Option (List ℕ)) (bs : List ℕ) → IfSome a (λ file. answer_of bs ≡ answer_of file)
+    → Appends old new (answer_of bs) → IfSome a (λ file. Appends old new (answer_of file))
+answer_kept None old new bs s w = tt
+answer_kept (Some file) old new bs s w = subst (Appends old new) s w

@@ -1,12 +1,11 @@
 // The bench program: takes a file from standard input and writes its verdict, item and counts to standard output.
 #![tactic(auto)]
 
-ghost use Rattle.std.specs.Prelude.{◌≡◌, ◌++◌, ◌≤◌, ◌<◌, ℕ, length, take, drop, vec_len, IfOk, OnOk, OnErr, IfSome};
+ghost use Rattle.std.specs.Prelude.{◌≡◌, ◌++◌, ◌≤◌, ◌<◌, ℕ, length, take, drop, IfOk, OnOk, OnErr, IfSome};
 ghost use Rattle.std.specs.Io.KnownBytes.{Appends, Consumes, IsAtEnd};
 ghost use Rattle.lines.specs.Report.{longest};
 ghost use Rattle.bench.specs.Bench.{answer_of, Within};
 
-use std::alloc::{AllocError, Global};
 use std::io;
 use std::io::{Read, Write};
 
@@ -14,10 +13,10 @@ use std::io::{Read, Write};
 const LIMIT: usize = 65536;
 
 // Room for one byte more than are checked.
-fn input_buffer(alloc: Global) -> Result<Vec<u8>, AllocError>
-    ensures { IfOk result (λ buffer. 65537 ≡ vec_len buffer) }
+fn input_buffer() -> [u8; 65537]
+    ensures { 65537 ≡ length result }
 {
-    vec![in alloc; 0; 65537]
+    [0; 65537]
 }
 
 // Reads until the input ends or the buffer is full, and says how many bytes came. They lie at the start of the buffer, also
@@ -71,17 +70,41 @@ fn respond<O: Write>(input: &[u8], out: &mut O) -> io::Result<()>
     out.write_all(&line[..n])
 }
 
+// What did not come about.
+#[derive(Clone, Copy)]
+enum Failure {
+    Read,
+    Write,
+}
+
 // Reads a file and answers it.
-fn run<I: Read, O: Write>(input: &mut I, out: &mut O, buffer: &mut [u8]) -> io::Result<()>
+fn run<I: Read, O: Write>(input: &mut I, out: &mut O, buffer: &mut [u8]) -> Result<(), Failure>
     requires { 65537 ≡ length buffer.old }
     ensures { OnOk result (IfSome (I.remaining input.old)
         (λ file. Appends (O.contents out.old) (O.contents out.new) (answer_of file))) }
 {
-    let n = read_input(input, buffer)?;
-    respond(&buffer[..n], out)
+    match read_input(input, buffer) {
+        Ok(n) => match respond(&buffer[..n], out) {
+            Ok(()) => Ok(()),
+            Err(_) => Err(Failure::Write),
+        },
+        Err(_) => Err(Failure::Read),
+    }
 }
 
-fn main(rt: HostRuntime) -> io::Result<()> {
-    let mut buffer = input_buffer(rt.alloc())?;
-    run(&mut rt.stdin(), &mut rt.stdout(), &mut buffer)
+fn main(rt: HostRuntime) {
+    let mut buffer = input_buffer();
+    match run(&mut rt.stdin(), &mut rt.stdout(), &mut buffer) {
+        Ok(()) => {}
+        Err(Failure::Read) => {
+            let _ = rt
+                .stderr()
+                .write_all(b"bench: cannot read standard input\n");
+        }
+        Err(Failure::Write) => {
+            let _ = rt
+                .stderr()
+                .write_all(b"bench: cannot write standard output\n");
+        }
+    }
 }

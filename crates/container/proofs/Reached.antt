@@ -75,13 +75,13 @@ module _ (f : List ℕ) (l : 12 ≤ length f) (i at : ℕ) (s : Starts f i at) (
   pub chunk_below : i < count f
   chunk_below = omega (arith, length-drop i (chunks_of f), ap length (here.stage.rest ∙ chunks_more (drop at f) whole))
 
-  -- its chunk_length
+  -- its chunkLength
   pub chunk_length_lem : (chunk_at f i).chunk_length ≡ chunk_length_at f at
   chunk_length_lem =
       ap (λ (k : Chunk). k.chunk_length) (chunk_at_lem f at i here.json here.bin here.stage whole)
       ∙ sym (length_at f at i here.json here.bin here.stage whole)
 
-  -- its chunk_type
+  -- its chunkType
   pub chunk_type_lem : (chunk_at f i).chunk_type ≡ chunk_type_at f at
   chunk_type_lem =
       ap (λ (k : Chunk). k.chunk_type) (chunk_at_lem f at i here.json here.bin here.stage whole)

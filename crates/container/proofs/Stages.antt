@@ -84,7 +84,7 @@ module _ (f : List ℕ) (at n json bin : ℕ) (s : Stage f at n json bin) (whole
   unfolding header_at
   length_at = let e : at + 0 ≡ at = omega arith in sym (rw e at (little_at-drop f at 0 4))
 
-  -- its chunk_type
+  -- its chunkType
   pub type_at : little_at f (at + 4) 4 ≡ head.chunk_type
   unfolding header_at
   type_at = sym (little_at-drop f at 4 4)

@@ -45,7 +45,7 @@ module _ (f : List ℕ) (l : 20 ≤ length f) (filled : 12 + bytes_of (chunks_of
       by_test (ltb 0 (count f)) (λ t. ltb-true 0 (count f) t)
       (λ t. absurd (omega (arith, filled, l, ap bytes_of (length_none (chunks_of f) (ltb-false 0 (count f) t)))))
 
-  -- its chunk_length
+  -- its chunkLength
   pub json_length : little_at f 12 4 ≡ (chunk_at f 0).chunk_length
   json_length = length_at f 12 0 0 0 first first_whole ∙ ap (λ (c : Chunk). c.chunk_length) (sym (chunk_at_lem f 12 0 0 0 first first_whole))
 
@@ -68,14 +68,14 @@ module _ (f : List ℕ) (l : 20 ≤ length f) (filled : 12 + bytes_of (chunks_of
   bin_room h = let s = second.2 in
       omega (arith, whole_within f at s.within (stage_whole f at 1 second.0 second.1 s filled h))
 
-  -- its chunk_length
+  -- its chunkLength
   pub bin_length : at < length f → little_at f at 4 ≡ (chunk_at f 1).chunk_length
   bin_length h =
       let s = second.2 in
       let w = stage_whole f at 1 second.0 second.1 s filled h in
       length_at f at 1 second.0 second.1 s w ∙ ap (λ (c : Chunk). c.chunk_length) (sym (chunk_at_lem f at 1 second.0 second.1 s w))
 
-  -- its chunk_type
+  -- its chunkType
   pub bin_type : at < length f → little_at f (at + 4) 4 ≡ (chunk_at f 1).chunk_type
   bin_type h =
       let s = second.2 in

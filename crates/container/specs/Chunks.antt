@@ -12,7 +12,7 @@ pub record Chunk : Type 0 where
 unfoldable pub header_at : List ℕ → Chunk
 header_at w = record { chunk_length = little_at w 0 4; chunk_type = little_at w 4 4 }
 
--- a header, a chunk_length that is a multiple of 4, and data that do not pass the end
+-- a header, a chunkLength that is a multiple of 4, and data that do not pass the end
 unfoldable pub starts_whole : List ℕ → Bool
 starts_whole w = leb 8 (length w) && eqb ((header_at w).chunk_length % 4) 0 && leb (8 + (header_at w).chunk_length) (length w)
 

@@ -3,7 +3,7 @@
 use Rattle.std.specs.Prelude.{ℕ, suc, ◌+◌, ◌%◌, ◌≤◌, ◌<◌, ◌≡◌, List, length}
 use Rattle.laws.specs.Bytes.{little_at}
 
--- Chunk: chunk_length, chunk_type, data
+-- Chunk: chunkLength, chunkType, data
 abbrev pub chunk_length_at : List ℕ → ℕ → ℕ
 chunk_length_at f at = little_at f at 4
 
@@ -11,7 +11,7 @@ chunk_length_at f at = little_at f at 4
 abbrev pub chunk_type_at : List ℕ → ℕ → ℕ
 chunk_type_at f at = little_at f (at + 4) 4
 
--- a chunk at a byte of the file: its header is not cut, its chunk_length is a multiple of 4, its data do not pass the end
+-- a chunk at a byte of the file: its header is not cut, its chunkLength is a multiple of 4, its data do not pass the end
 pub record IsChunk (f : List ℕ) (at : ℕ) : Type 0 where
   pub header : at + 8 ≤ length f
   pub multiple : chunk_length_at f at % 4 ≡ 0

@@ -87,46 +87,34 @@ fn four(a: u8, b: u8, c: u8, d: u8) -> usize {
     (a as usize) + 256 * (b as usize) + 65536 * (c as usize) + 16777216 * (d as usize)
 }
 
-// The next n bytes of the input, or as many as are left.
-fn read_next(input: &mut impl Read, n: usize, bytes: &mut Vec<u8>) -> io::Result<()> {
-    bytes.clear();
-    input.take(n as u64).read_to_end(bytes)?;
-    Ok(())
-}
-
 // The next file's length, where there is a file.
-fn next_length(input: &mut impl Read, head: &mut Vec<u8>) -> io::Result<Option<usize>> {
-    read_next(input, 4, head)?;
-    match head.as_slice() {
-        [a, b, c, d] => Ok(Some(four(*a, *b, *c, *d))),
-        _ => Ok(None),
+fn next_length(input: &mut impl Read) -> Option<usize> {
+    let mut head = [0u8; 4];
+    if input::read_full(input, &mut head) < 4 {
+        return None;
     }
+    Some(four(head[0], head[1], head[2], head[3]))
 }
 
-// Reports the next file; whether there was one and it was not too long.
-fn report_next(
-    input: &mut impl Read,
-    out: &mut impl Write,
-    file: &mut Vec<u8>,
-) -> io::Result<bool> {
-    let Some(n) = next_length(input, file)? else {
+// Reports the next file; whether there was one and it fitted the buffer.
+fn report_next(input: &mut impl Read, out: &mut impl Write, buffer: &mut [u8]) -> io::Result<bool> {
+    let Some(n) = next_length(input) else {
         return Ok(false);
     };
-    if LONGEST < n {
+    if buffer.len() < n {
         return Ok(false);
     }
-    read_next(input, n, file)?;
-    if file.len() < n {
+    if input::read_full(input, &mut buffer[..n]) < n {
         return Ok(false);
     }
-    report(file, out)?;
+    report(&buffer[..n], out)?;
     Ok(true)
 }
 
 fn main(rt: HostRuntime) -> io::Result<()> {
-    let mut file = Vec::new(rt.alloc());
+    let mut buffer = [0u8; LONGEST];
     for _ in 0..FILES {
-        if !report_next(&mut rt.stdin(), &mut rt.stdout(), &mut file)? {
+        if !report_next(&mut rt.stdin(), &mut rt.stdout(), &mut buffer)? {
             break;
         }
     }

@@ -5,10 +5,10 @@
 ghost use Rattle.std.specs.Prelude.{◌≤◌, ◌<◌, length};
 
 use std::io;
-use std::io::{Read, Write};
+use std::io::Write;
 
 // The most bytes that are read.
-const MOST: u64 = 65536;
+const MOST: usize = 65536;
 
 // Where the line that starts at `at` ends: its newline, or the end of the input.
 fn line_end(s: &[u8], at: usize) -> usize
@@ -85,7 +85,7 @@ fn report_all(s: &[u8], out: &mut impl Write) -> io::Result<()> {
 }
 
 fn main(rt: HostRuntime) -> io::Result<()> {
-    let mut input = Vec::new(rt.alloc());
-    rt.stdin().take(MOST).read_to_end(&mut input)?;
-    report_all(&input, &mut rt.stdout())
+    let mut buffer = [0u8; MOST];
+    let n = input::read_full(&mut rt.stdin(), &mut buffer);
+    report_all(&buffer[..n], &mut rt.stdout())
 }

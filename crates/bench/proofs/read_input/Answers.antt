@@ -2,7 +2,7 @@ use borrow.Author.Rules.{rules}
 use Rattle.std.proofs.Common.{length, ◌-◌, subst}
 use Rattle.std.specs.Io.KnownBytes.{Consumes}
 use Rattle.std.proofs.KnownBytes.{Consumes-trans}
-use Rattle.bench.proofs.Reading.{behind}
+use Rattle.input.proofs.Reading.{behind}
 use Rattle.bench.proofs.read_input.Goals as goal
 
 pub loop-n-preserved : goal.loop-n-preserved
