@@ -31,6 +31,7 @@ fn stride_of(v: BufferView, element: u32) -> u32
     }
 }
 
+#[tactic(auto, unfolding(crate::specs::Accessors::alignment))]
 fn alignment_of(size: u32, element_type: u32) -> u32
     ensures { result ≡ alignment size element_type }
 {

@@ -1,3 +1,4 @@
+use native.Mathlib.Omega.{arith}
 use Prim.Native.Nat.{◌<◌}
 use mathlib.Core.Path.{◌≡◌, sym, ap, ◌∙◌}
 use mathlib.Core.Bool.{false}
@@ -71,4 +72,4 @@ returns c =
     let a = c.args in
     c.own_in-own.ensures
     ∙ own_other a.file.now a.s a.element a.component (fit (goal.at.returns c).Else-unfit) _
-    c.entry_for-k.ensures c.if-k-s.false
+    c.entry_for-k.ensures (omega arith)

@@ -1,3 +1,5 @@
+use native.Mathlib.Omega.{arith}
+use lib.ListN.{length}
 use borrow.Author.Tests.{lt-ltb, le-ltb, eq-eqb, ne_eqb}
 use Rattle.container.specs.Rules.{header_rows}
 use Rattle.container.proofs.header_fault.Goals as goal
@@ -12,16 +14,16 @@ returns-then-size-gt16777216 c = rw (le-ltb _ _ c.if-size-lt20.false, lt-ltb _ _
 
 pub returns-then-word-ne1179937895 : goal.returns-then-word-ne1179937895
 unfolding header_rows
-returns-then-word-ne1179937895 c = rw (le-ltb _ _ c.if-size-lt20.false, le-ltb _ _ c.if-size-gt16777216.false, ← c.word.ensures, ne_eqb _ _ c.if-word-ne1179937895.true)
+returns-then-word-ne1179937895 c = rw (le-ltb _ _ c.if-size-lt20.false, le-ltb 16777216 (length c.args.file.now) (omega arith), ← c.word.ensures, ne_eqb _ _ c.if-word-ne1179937895.true)
 
 pub returns-then-word-ne2 : goal.returns-then-word-ne2
 unfolding header_rows
-returns-then-word-ne2 c = rw (le-ltb _ _ c.if-size-lt20.false, le-ltb _ _ c.if-size-gt16777216.false, ← c.word.ensures, eq-eqb _ _ c.if-word-ne1179937895.false, ← c.word-2.ensures, ne_eqb _ _ c.if-word-ne2.true)
+returns-then-word-ne2 c = rw (le-ltb _ _ c.if-size-lt20.false, le-ltb 16777216 (length c.args.file.now) (omega arith), ← c.word.ensures, eq-eqb _ _ c.if-word-ne1179937895.false, ← c.word-2.ensures, ne_eqb _ _ c.if-word-ne2.true)
 
 pub returns-then-word-size : goal.returns-then-word-size
 unfolding header_rows
-returns-then-word-size c = rw (le-ltb _ _ c.if-size-lt20.false, le-ltb _ _ c.if-size-gt16777216.false, ← c.word.ensures, eq-eqb _ _ c.if-word-ne1179937895.false, ← c.word-2.ensures, eq-eqb _ _ c.if-word-ne2.false, ← c.word-3.ensures, ne_eqb _ _ c.if-word-size.true)
+returns-then-word-size c = rw (le-ltb _ _ c.if-size-lt20.false, le-ltb 16777216 (length c.args.file.now) (omega arith), ← c.word.ensures, eq-eqb _ _ c.if-word-ne1179937895.false, ← c.word-2.ensures, eq-eqb _ _ c.if-word-ne2.false, ← c.word-3.ensures, ne_eqb _ _ c.if-word-size.true)
 
 pub returns : goal.returns
 unfolding header_rows
-returns c = rw (le-ltb _ _ c.if-size-lt20.false, le-ltb _ _ c.if-size-gt16777216.false, ← c.word.ensures, eq-eqb _ _ c.if-word-ne1179937895.false, ← c.word-2.ensures, eq-eqb _ _ c.if-word-ne2.false, ← c.word-3.ensures, eq-eqb _ _ c.if-word-size.false)
+returns c = rw (le-ltb _ _ c.if-size-lt20.false, le-ltb 16777216 (length c.args.file.now) (omega arith), ← c.word.ensures, eq-eqb _ _ c.if-word-ne1179937895.false, ← c.word-2.ensures, eq-eqb _ _ c.if-word-ne2.false, ← c.word-3.ensures, eq-eqb _ _ c.if-word-size.false)

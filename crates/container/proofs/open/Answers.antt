@@ -76,7 +76,7 @@ pub returns : goal.returns
 returns c =
     let f = c.args.file.now in
     c.places.ensures
-    ∙ none_broken f (holds (goal.at.returns c).Else-fault-lt5) (filled (goal.at.returns c).Else-found-file) (right (goal.at.returns c).Else-found) (placed (goal.at.returns c).Else-found-2) (rw (length-read (goal.at.returns c).After-word-json_length) at c.if-json_length-gt65536.false)
+    ∙ none_broken f (holds (goal.at.returns c).Else-fault-lt5) (filled (goal.at.returns c).Else-found-file) (right (goal.at.returns c).Else-found) (placed (goal.at.returns c).Else-found-2) (omega (arith, length-read (goal.at.returns c).After-word-json_length))
 
 pub overflow_cast-json_length : goal.overflow_cast-json_length
 overflow_cast-json_length c = search rules

@@ -1,3 +1,4 @@
+use borrow.Author.Rules.{rules}
 use mathlib.Core.Path.{◌≡◌}
 use mathlib.Core.Bool.{true, false}
 use Rattle.data.specs.Buffer.{rule19, buffer_rule}
@@ -14,12 +15,12 @@ pub returns-then-broken : goal.returns-then-broken
 unfolding buffer_rule
 returns-then-broken c =
     let a = c.args in
-    let t : rule19 a.has_bin a.bin_length a.byte_length ≡ false = c.if-length-has_bin.false in
+    let t : rule19 a.has_bin a.bin_length a.byte_length ≡ false = search rules in
     rw (t, ← c.padding_broken-broken.ensures, c.if-broken.true)
 
 pub returns-else-broken : goal.returns-else-broken
 unfolding buffer_rule
 returns-else-broken c =
     let a = c.args in
-    let t : rule19 a.has_bin a.bin_length a.byte_length ≡ false = c.if-length-has_bin.false in
+    let t : rule19 a.has_bin a.bin_length a.byte_length ≡ false = search rules in
     rw (t, ← c.padding_broken-broken.ensures, c.if-broken.false)

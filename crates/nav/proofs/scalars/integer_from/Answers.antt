@@ -28,12 +28,12 @@ pub returns-then-d-lt48 : goal.returns-then-d-lt48
 returns-then-d-lt48 c = rw (left (goal.at.returns-then-d-lt48 c).In-loop-i, from_low _ _ _ c.if-d-lt48.true)
 
 pub returns-then-d-gt57 : goal.returns-then-d-gt57
-returns-then-d-gt57 c = rw (left (goal.at.returns-then-d-gt57 c).In-loop-i, from_high _ _ _ c.if-d-lt48.false c.if-d-gt57.true)
+returns-then-d-gt57 c = rw (left (goal.at.returns-then-d-gt57 c).In-loop-i, from_high _ _ _ (omega arith) c.if-d-gt57.true)
 
 pub returns-then-m-gt4294967295 : goal.returns-then-m-gt4294967295
 returns-then-m-gt4294967295 c = rw (
   left (goal.at.returns-then-m-gt4294967295 c).In-loop-i,
-  from_large _ _ _ c.if-d-lt48.false
+  from_large _ _ _ (omega arith)
       c.if-d-gt57.false c.if-m-gt4294967295.true,
 )
 
@@ -42,7 +42,7 @@ loop-i-preserved c = (
   omega arith,
   omega arith,
   omega arith,
-  sym (from_on _ _ _ c.if-d-lt48.false c.if-d-gt57.false c.if-m-gt4294967295.false) ∙
+  sym (from_on _ _ _ (omega arith) c.if-d-gt57.false c.if-m-gt4294967295.false) ∙
       sym (left (goal.at.loop-i-preserved c).In-loop-i),
 )
 
