@@ -28,15 +28,7 @@ fn read_input<I: Read>(input: &mut I, buffer: &mut [u8]) -> io::Result<usize>
     ensures err { OnErr result ((n : ℕ) × (n ≤ length buffer.new)
         × Consumes (I.remaining input.old) (I.remaining input.new) (take n buffer.new)) }
 {
-    let mut n = 0;
-    while n < buffer.len() {
-        let more = input.read(&mut buffer[n..])?;
-        if more == 0 {
-            return Ok(n);
-        }
-        n += more;
-    }
-    Ok(n)
+    input::read_full(input, buffer)
 }
 
 // What is written for an input, at the start of the list, and its length.

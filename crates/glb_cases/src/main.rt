@@ -88,23 +88,23 @@ fn four(a: u8, b: u8, c: u8, d: u8) -> usize {
 }
 
 // The next file's length, where there is a file.
-fn next_length(input: &mut impl Read) -> Option<usize> {
+fn next_length(input: &mut impl Read) -> io::Result<Option<usize>> {
     let mut head = [0u8; 4];
-    if input::read_full(input, &mut head) < 4 {
-        return None;
+    if input::read_full(input, &mut head)? < 4 {
+        return Ok(None);
     }
-    Some(four(head[0], head[1], head[2], head[3]))
+    Ok(Some(four(head[0], head[1], head[2], head[3])))
 }
 
 // Reports the next file; whether there was one and it fitted the buffer.
 fn report_next(input: &mut impl Read, out: &mut impl Write, buffer: &mut [u8]) -> io::Result<bool> {
-    let Some(n) = next_length(input) else {
+    let Some(n) = next_length(input)? else {
         return Ok(false);
     };
     if buffer.len() < n {
         return Ok(false);
     }
-    if input::read_full(input, &mut buffer[..n]) < n {
+    if input::read_full(input, &mut buffer[..n])? < n {
         return Ok(false);
     }
     report(&buffer[..n], out)?;

@@ -1,24 +1,28 @@
 // What the programs read with.
 #![tactic(auto)]
 
-ghost use Rattle.std.specs.Prelude.{◌≤◌, length, take};
-ghost use Rattle.std.specs.Io.KnownBytes.{Consumes};
+ghost use Rattle.std.specs.Prelude.{◌<◌, ◌≤◌, ℕ, length, take, IfOk, OnErr};
+ghost use Rattle.std.specs.Io.KnownBytes.{Consumes, IsAtEnd};
 
+use std::io;
 use std::io::Read;
 
-// Reads until the buffer is full or the input ends, and says how many bytes came: they lie at the start of the buffer. A read
-// that fails ends the input.
-pub fn read_full<I: Read>(input: &mut I, buffer: &mut [u8]) -> usize
-    ensures within { result ≤ length buffer.new }
-    ensures bytes { Consumes (I.remaining input.old) (I.remaining input.new) (take result buffer.new) }
+// Reads until the buffer is full or the input ends, and says how many bytes came. They lie at the start of the buffer, also
+// those that came before an error.
+pub fn read_full<I: Read>(input: &mut I, buffer: &mut [u8]) -> io::Result<usize>
+    ensures within { IfOk result (λ n. n ≤ length buffer.new) }
+    ensures bytes { IfOk result (λ n. Consumes (I.remaining input.old) (I.remaining input.new) (take n buffer.new)) }
+    ensures end { IfOk result (λ n. n < length buffer.new → IsAtEnd (I.remaining input.new)) }
+    ensures err { OnErr result ((n : ℕ) × (n ≤ length buffer.new)
+        × Consumes (I.remaining input.old) (I.remaining input.new) (take n buffer.new)) }
 {
     let mut n = 0;
     while n < buffer.len() {
-        match input.read(&mut buffer[n..]) {
-            Ok(0) => return n,
-            Ok(more) => n += more,
-            Err(_) => return n,
+        let more = input.read(&mut buffer[n..])?;
+        if more == 0 {
+            return Ok(n);
         }
+        n += more;
     }
-    n
+    Ok(n)
 }

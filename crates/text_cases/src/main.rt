@@ -86,6 +86,6 @@ fn report_all(s: &[u8], out: &mut impl Write) -> io::Result<()> {
 
 fn main(rt: HostRuntime) -> io::Result<()> {
     let mut buffer = [0u8; MOST];
-    let n = input::read_full(&mut rt.stdin(), &mut buffer);
+    let n = input::read_full(&mut rt.stdin(), &mut buffer)?;
     report_all(&buffer[..n], &mut rt.stdout())
 }
