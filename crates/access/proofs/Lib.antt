@@ -5,3 +5,4 @@ pub mod Answers
 pub mod Staged
 pub mod Alike
 pub mod Exact
+pub mod Results

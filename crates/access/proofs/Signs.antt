@@ -1,13 +1,15 @@
--- The difference of two unsigned numbers, cast to i64.
+-- Unsigned numbers, cast to signed ones.
 -- Assumes nothing.
-use Prim.Native.Nat.{ℕ, zero, suc, ◌-◌, ◌^◌, ◌<◌}
-use mathlib.Core.Path.{◌≡◌, ◌∙◌}
+use Prim.Native.Nat.{ℕ, zero, suc, ◌+◌, ◌-◌, ◌^◌, ◌<◌}
+use mathlib.Core.Path.{◌≡◌}
 use native.Mathlib.Omega.{arith}
 use borrow.Author.Tests.{lt-ltb}
+use lib.Dec.{ltb}
 use lib.IntN.{pos, negsuc, ◌-ℤ◌}
-use mir.Syntax.{w64}
-use mir.Val.{to_z, of_z, SFits}
-use mir.ValLaws.{to_z-of_z}
+use mir.Syntax.{w8, w16, w64}
+use mir.Val.{to_z}
+use Rattle.laws.proofs.Tests.{by_test}
+use Rattle.access.specs.Numbers.{twos}
 
 -- a smaller number less a larger one is negative
 pub minus : (a b : ℕ) → a < b → pos a -ℤ pos b ≡ negsuc (b - suc a)
@@ -18,10 +20,14 @@ minus a (suc b) l = rw (lt-ltb a (suc b) l)
 pub small : (n : ℕ) → n < 2 ^ 63 → to_z w64 n ≡ pos n
 small n l = rw (lt-ltb n (2 ^ 63) l)
 
--- the difference of two casts fits, ..
-pub difference : (a b : ℕ) → a < b → b < 2 ^ 63 → SFits w64 (to_z w64 a -ℤ to_z w64 b)
-difference a b l h = rw (small a (omega arith), small b h, minus a b l) (record { sfits = omega arith })
+-- a byte read as i8, ..
+pub byte_signed : (n : ℕ) → n < 256 → to_z w8 n ≡ twos 128 n
+unfolding twos
+byte_signed n h =
+    by_test (ltb n 128) (λ t. rw t) (λ t. rw (t, minus n 256 h))
 
--- .. and is the difference
-pub back : (a b : ℕ) → a < b → b < 2 ^ 63 → to_z w64 (of_z w64 (to_z w64 a -ℤ to_z w64 b)) ≡ pos a -ℤ pos b
-back a b l h = to_z-of_z w64 _ (difference a b l h) ∙ rw (small a (omega arith), small b h)
+-- .. and two bytes read as i16 are two's complement
+pub short_signed : (n : ℕ) → n < 65536 → to_z w16 n ≡ twos 32768 n
+unfolding twos
+short_signed n h =
+    by_test (ltb n 32768) (λ t. rw t) (λ t. rw (t, minus n 65536 h))

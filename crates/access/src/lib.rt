@@ -7,6 +7,7 @@ ghost use Rattle.tables.specs.Stages.{own_fit};
 ghost use Rattle.access.specs.Readings.{component_in, component_of};
 ghost use Rattle.access.specs.Stages.{own_reading};
 ghost use Rattle.access.specs.Views.{view_number_in, view_number_of, view_place_of, view_of, StartsAt};
+ghost use Rattle.access.specs.Results.{number_of, reading_of, view_number_said, place_said, view_place_in};
 
 use tables::selection::{Fit, Selection, ViewSelection};
 use tables::{Tables, layout, selection};
@@ -14,26 +15,65 @@ use tables::{Tables, layout, selection};
 mod numbers;
 mod values;
 
-// The number of the refusal, 0 where the component is answered; the value, 0 where it is refused.
+// Why a reading or a view lookup is refused.
+#[derive(Clone, Copy, Debug, PartialEq, Eq, Hash)]
+pub enum Refusal {
+    // The accessor index is not below the count or 128.
+    NoAccessor,
+    // The element is not below the accessor's count.
+    NoElement,
+    // The component is not below the number of the accessor's type.
+    NoComponent,
+    // A record concerned breaks a rule, or the buffer passes the lent bytes.
+    Unfit,
+    // The view index is not below the count or 64.
+    NoView,
+}
+
+impl Refusal {
+    // The number that a C caller sees.
+    pub fn number(self) -> u32
+        ensures { result ≡ number_of self }
+    {
+        match self {
+            Refusal::NoAccessor => 60,
+            Refusal::NoElement => 61,
+            Refusal::NoComponent => 62,
+            Refusal::Unfit => 63,
+            Refusal::NoView => 67,
+        }
+    }
+}
+
+// A reading as C sees it: the number of the refusal, 0 where the component is answered; the value, 0 where it is refused.
+// Stays: the C interface and the definition `component_of` have the number and the value.
 #[repr(C)]
-#[derive(Clone, Copy)]
+#[derive(Clone, Copy, Debug, PartialEq, Eq, Hash)]
 pub struct Reading {
     pub number: u32,
     pub value: i64,
 }
 
+impl From<Result<i64, Refusal>> for Reading {
+    ghost from_gives = { λ r reading. reading ≡ reading_of r };
+
+    fn from(answer: Result<i64, Refusal>) -> Reading {
+        match answer {
+            Ok(value) => Reading { number: 0, value },
+            Err(refusal) => Reading {
+                number: refusal.number(),
+                value: 0,
+            },
+        }
+    }
+}
+
 // Where a part lies in the file.
 #[repr(C)]
-#[derive(Clone, Copy)]
+#[derive(Clone, Copy, Debug, PartialEq, Eq, Hash)]
 pub struct Place {
     pub start: usize,
     pub length: usize,
-}
-
-fn refused(number: u32) -> Reading
-    ensures { result ≡ Rattle.access.specs.Readings.refused number }
-{
-    Reading { number, value: 0 }
 }
 
 // The records concerned in readings of one accessor, for many readings of it.
@@ -44,52 +84,52 @@ pub fn select(t: Tables, accessor: u32) -> Selection
 }
 
 // 61, 62, or the component in the accessor's own view, where 63 is not given.
-fn own_in(file: &[u8], s: Selection, f: Fit, element: u32, component: u32) -> Reading
+// Stays: file, selection and fit are parameters, and what is known of them clauses of each function. Tried as one struct
+// with these facts as ghost fields: it lies in memory, and a reading took a quarter longer, alone and in a loop.
+fn own_in(file: &[u8], s: Selection, f: Fit, element: u32, component: u32) -> Result<i64, Refusal>
     requires s_value { accessor_unfit (length file.now) s ≡ false }
     requires f_value { f ≡ own_fit (length file.now) s }
-    ensures { result ≡ own_reading file.now s element component }
+    ensures { reading_of result ≡ own_reading file.now s element component }
 {
     if s.accessor.count <= element {
-        return refused(61);
+        return Err(Refusal::NoElement);
     }
-    let components = layout::component_count(s.accessor.element_type);
-    if components <= component {
-        return refused(62);
+    if layout::component_count(s.accessor.element_type) <= component {
+        return Err(Refusal::NoComponent);
     }
-    let value = values::own_value(file, s, f, element, component);
-    Reading { number: 0, value }
+    Ok(values::own_value(file, s, f, element, component))
 }
 
 // The reading of an accessor with sparse, where 63 is not given by all else.
-fn sparse_in(file: &[u8], s: Selection, f: Fit, element: u32, component: u32) -> Reading
+fn sparse_in(
+    file: &[u8],
+    s: Selection,
+    f: Fit,
+    element: u32,
+    component: u32,
+) -> Result<i64, Refusal>
     requires f_value { f ≡ own_fit (length file.now) s }
     requires s_value { (own_fit (length file.now) s).unfit ≡ false }
     requires has_sparse_value { s.accessor.has_sparse ≡ true }
-    ensures { result ≡ component_in file.now s element component }
+    ensures { reading_of result ≡ component_in file.now s element component }
 {
-    let unfit = selection::sparse_unfit(s);
-    if unfit {
-        return refused(63);
+    if selection::sparse_unfit(s) {
+        return Err(Refusal::Unfit);
     }
-    let own = own_in(file, s, f, element, component);
-    if own.number != 0 {
-        return own;
+    let own = own_in(file, s, f, element, component)?;
+    match values::entry_for(file, s, element) {
+        Some(k) => Ok(values::entry_value(file, s, f, k, component)),
+        None => Ok(own),
     }
-    let k = values::entry_for(file, s, element);
-    if k < s.accessor.sparse.count {
-        let value = values::entry_value(file, s, f, k, component);
-        return Reading { number: 0, value };
-    }
-    own
 }
 
 // The component of the accessor selected: 63, 61, 62. The selection is trusted no more than tables.
-pub fn component_in(file: &[u8], s: Selection, element: u32, component: u32) -> Reading
-    ensures { result ≡ component_in file.now s element component }
+pub fn component_in(file: &[u8], s: Selection, element: u32, component: u32) -> Result<i64, Refusal>
+    ensures { reading_of result ≡ component_in file.now s element component }
 {
     let fit = selection::own_fit(file.len(), s);
     if fit.unfit {
-        return refused(63);
+        return Err(Refusal::Unfit);
     }
     if s.accessor.has_sparse {
         return sparse_in(file, s, fit, element, component);
@@ -98,50 +138,45 @@ pub fn component_in(file: &[u8], s: Selection, element: u32, component: u32) -> 
 }
 
 // The component of an accessor of the tables: 60, then as above.
-pub fn component(file: &[u8], t: Tables, accessor: u32, element: u32, component: u32) -> Reading
-    ensures { result ≡ component_of file.now t accessor element component }
+pub fn component(
+    file: &[u8],
+    t: Tables,
+    accessor: u32,
+    element: u32,
+    component: u32,
+) -> Result<i64, Refusal>
+    ensures { reading_of result ≡ component_of file.now t accessor element component }
 {
     if (t.accessors <= accessor) | (128 <= accessor) {
-        return refused(60);
+        return Err(Refusal::NoAccessor);
     }
     let s = selection::select(t, accessor);
     component_in(file, s, element, component)
 }
 
-// The number for the view selected, over so many lent bytes. The selection is trusted no more than tables.
-pub fn view_number_in(bytes: usize, s: ViewSelection, view: u32) -> u32
-    ensures { result ≡ view_number_in bytes s view }
+// Where the view selected lies in the file, over so many lent bytes: 67, 63. The selection is trusted no more than tables.
+pub fn view_place_in(bytes: usize, s: ViewSelection, view: u32) -> Result<Place, Refusal>
+    ensures number { view_number_said result ≡ view_number_in bytes s view }
+    ensures place { place_said result ≡ view_place_in bytes s view }
 {
     if (s.extent.views <= view) | (64 <= view) {
-        return 67;
+        return Err(Refusal::NoView);
     }
-    let unfit = selection::view_unfit(bytes, s);
-    if unfit { 63 } else { 0 }
+    if selection::view_unfit(bytes, s) {
+        return Err(Refusal::Unfit);
+    }
+    Ok(Place {
+        start: s.extent.buffer_start as usize + s.view.byte_offset as usize,
+        length: s.view.byte_length as usize,
+    })
 }
 
-// The number of a view lookup: 67, 63, or 0 where the view is answered.
-pub fn view_number(file: &[u8], t: Tables, view: u32) -> u32
-    ensures { result ≡ view_number_of file.now t view }
+// Where a view of the tables lies in the file: 67, 63.
+pub fn view_place(file: &[u8], t: Tables, view: u32) -> Result<Place, Refusal>
+    ensures number { view_number_said result ≡ view_number_of file.now t view }
+    ensures place { place_said result ≡ view_place_of file.now t view }
 {
-    let s = selection::select_view(t, view);
-    view_number_in(file.len(), s, view)
-}
-
-// Where the view lies in the file; refused, start and length are 0.
-pub fn view_place(file: &[u8], t: Tables, view: u32) -> Place
-    ensures { result ≡ view_place_of file.now t view }
-{
-    let v = selection::select_view(t, view);
-    let number = view_number_in(file.len(), v, view);
-    if number != 0 {
-        return Place {
-            start: 0,
-            length: 0,
-        };
-    }
-    let start = v.extent.buffer_start as usize + v.view.byte_offset as usize;
-    let length = v.view.byte_length as usize;
-    Place { start, length }
+    view_place_in(file.len(), selection::select_view(t, view), view)
 }
 
 // The view's bytes, a part of the file lent and no copy: it starts that far into the file. Refused, an empty part.
@@ -149,8 +184,8 @@ pub fn view(file: &[u8], t: Tables, view: u32) -> &[u8]
     ensures { (result.now ≡ view_of file.now t view)
         × StartsAt result file.entry (view_place_of file.now t view).start }
 {
-    let place = view_place(file, t, view);
-    let start = place.start;
-    let end = start + place.length;
-    &file[start..end]
+    match view_place(file, t, view) {
+        Ok(place) => &file[place.start..place.start + place.length],
+        Err(_) => &file[0..0],
+    }
 }

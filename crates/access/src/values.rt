@@ -4,6 +4,7 @@ ghost use Rattle.tables.specs.Elements.{is_size, component_count};
 ghost use Rattle.tables.specs.Fitness.{accessor_unfit};
 ghost use Rattle.tables.specs.Stages.{own_fit};
 ghost use Rattle.access.specs.Readings.{sparse_find, entry_for, own_value, entry_value};
+ghost use Rattle.access.specs.Results.{found};
 
 use crate::numbers;
 use tables::layout;
@@ -12,7 +13,7 @@ use tables::selection::{Fit, Selection};
 fn sum(a: u32, b: u32, c: u32) -> u64
     ensures { result ≡ a + b + c }
 {
-    (a as u64) + (b as u64) + (c as u64)
+    u64::from(a) + u64::from(b) + u64::from(c)
 }
 
 // Where the part at `inner` of item k starts, the items lying `step` bytes apart.
@@ -20,31 +21,29 @@ fn place(first: u64, step: u32, k: u32, inner: u64) -> u64
     requires { first + step * k + inner < 2 ^ 63 }
     ensures { result ≡ first + step * k + inner }
 {
-    first + (step as u64) * (k as u64) + inner
+    first + u64::from(step) * u64::from(k) + inner
 }
 
-// The first of `count` indices, each of `size` bytes from `first` on, that is the element; `count` if there is none.
-fn sparse_find(file: &[u8], first: usize, size: u32, count: u32, element: u32) -> u32
+// The first of `count` indices, each of `size` bytes from `first` on, that is the element.
+fn sparse_find(file: &[u8], first: usize, size: u32, count: u32, element: u32) -> Option<u32>
     requires count_in_bounds { first + size * count ≤ length file.now }
     requires size_value { (is_size size || eqb size 0) ≡ true }
-    ensures { result ≡ sparse_find file.now first size count element }
+    ensures { result ≡ found count (sparse_find file.now first size count element) }
 {
-    let mut k: u32 = 0;
-    while k < count {
+    for k in 0..count {
         let index = numbers::little_at(file, first + (size as usize) * (k as usize), size);
-        if index == element as u64 {
-            return k;
+        if index == u64::from(element) {
+            return Some(k);
         }
-        k += 1;
     }
-    k
+    None
 }
 
 // The sparse entry for the element.
-pub(crate) fn entry_for(file: &[u8], s: Selection, element: u32) -> u32
+pub(crate) fn entry_for(file: &[u8], s: Selection, element: u32) -> Option<u32>
     requires s_value { accessor_unfit (length file.now) s ≡ false }
     requires has_sparse_value { s.accessor.has_sparse ≡ true }
-    ensures { result ≡ entry_for file.now s element }
+    ensures { result ≡ found s.accessor.sparse.count (entry_for file.now s element) }
 {
     let p = s.accessor.sparse;
     let size = layout::component_size(p.indices_type);

@@ -4,10 +4,15 @@
 ghost use Rattle.std.specs.Prelude.{◌≡◌, ◌++◌, ◌≤◌, ◌<◌, ℕ, length, take, drop, IfOk, OnOk, OnErr, IfSome};
 ghost use Rattle.std.specs.Io.KnownBytes.{Appends, Consumes, IsAtEnd};
 ghost use Rattle.lines.specs.Report.{longest};
-ghost use Rattle.bench.specs.Bench.{answer_of, Within};
+ghost use Rattle.glb.specs.Results.{checked_of};
+ghost use Rattle.lines.specs.Results.{report_on};
+ghost use Rattle.bench.specs.Bench.{answer_of, lines_of, Within};
 
-use std::io;
+use glb::Fault;
+use lines::Summary;
 use std::io::{Read, Write};
+use std::{fmt, io};
+use tables::Tables;
 
 // The most bytes that are checked.
 const LIMIT: usize = 65536;
@@ -31,6 +36,28 @@ fn read_input<I: Read>(input: &mut I, buffer: &mut [u8]) -> io::Result<usize>
     input::read_full(input, buffer)
 }
 
+// What is reported of a checked file.
+// Stays: no From, since neither type is of this crate.
+fn summary(checked: Result<Tables, Fault>) -> Summary
+    ensures { report_on result ≡ lines_of (checked_of checked) }
+{
+    match checked {
+        Ok(t) => Summary {
+            verdict: 0,
+            item: 0,
+            views: t.views,
+            accessors: t.accessors,
+            nodes: t.nodes,
+            scenes: t.scenes,
+        },
+        Err(broken) => Summary {
+            verdict: broken.rule,
+            item: broken.item,
+            ..Summary::default()
+        },
+    }
+}
+
 // What is written for an input, at the start of the list, and its length.
 fn answer(input: &[u8], out: &mut [u8]) -> usize
     requires { longest ≤ length out.old }
@@ -38,19 +65,10 @@ fn answer(input: &[u8], out: &mut [u8]) -> usize
         × (out.new ≡ answer_of input.now ++ drop (length (answer_of input.now)) out.old) }
 {
     if LIMIT < input.len() {
-        return lines::too_long(out);
+        return lines::too_long(out).unwrap_or(0);
     }
-    let c = glb::check(input);
-    let t = c.tables;
-    lines::report(
-        c.verdict,
-        c.item,
-        t.views,
-        t.accessors,
-        t.nodes,
-        t.scenes,
-        out,
-    )
+    // There is room, as the clause says: neither is None.
+    lines::report(summary(glb::check(input)), out).unwrap_or(0)
 }
 
 // Checks and answers the input that was read.
@@ -63,10 +81,19 @@ fn respond<O: Write>(input: &[u8], out: &mut O) -> io::Result<()>
 }
 
 // What did not come about.
-#[derive(Clone, Copy)]
+#[derive(Clone, Copy, PartialEq, Eq, Debug)]
 enum Failure {
     Read,
     Write,
+}
+
+impl fmt::Display for Failure {
+    fn fmt<W: fmt::Write>(&self, f: &mut fmt::Formatter<W>) -> fmt::Result {
+        match self {
+            Failure::Read => f.write_str("bench: cannot read standard input"),
+            Failure::Write => f.write_str("bench: cannot write standard output"),
+        }
+    }
 }
 
 // Reads a file and answers it.
@@ -75,28 +102,13 @@ fn run<I: Read, O: Write>(input: &mut I, out: &mut O, buffer: &mut [u8]) -> Resu
     ensures { OnOk result (IfSome (I.remaining input.old)
         (λ file. Appends (O.contents out.old) (O.contents out.new) (answer_of file))) }
 {
-    match read_input(input, buffer) {
-        Ok(n) => match respond(&buffer[..n], out) {
-            Ok(()) => Ok(()),
-            Err(_) => Err(Failure::Write),
-        },
-        Err(_) => Err(Failure::Read),
-    }
+    let n = read_input(input, buffer).map_err(|_| Failure::Read)?;
+    respond(&buffer[..n], out).map_err(|_| Failure::Write)
 }
 
 fn main(rt: HostRuntime) {
     let mut buffer = input_buffer();
-    match run(&mut rt.stdin(), &mut rt.stdout(), &mut buffer) {
-        Ok(()) => {}
-        Err(Failure::Read) => {
-            let _ = rt
-                .stderr()
-                .write_all(b"bench: cannot read standard input\n");
-        }
-        Err(Failure::Write) => {
-            let _ = rt
-                .stderr()
-                .write_all(b"bench: cannot write standard output\n");
-        }
+    if let Err(failure) = run(&mut rt.stdin(), &mut rt.stdout(), &mut buffer) {
+        let _ = rt.eprintln(failure);
     }
 }

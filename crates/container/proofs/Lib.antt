@@ -1,7 +1,9 @@
 pub mod Chunks
+pub mod Firsts
 pub mod Stages
 pub mod TwoChunks
 pub mod Verdicts
+pub mod Outcomes
 pub mod Reached
 pub mod Rows
 pub mod Exact

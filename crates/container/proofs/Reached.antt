@@ -9,6 +9,7 @@ use native.Mathlib.Omega.{arith}
 use borrow.Author.Tests.{ltb-true, ltb-false, leb-true, le-leb, eqb-true, eq-eqb}
 use lib.Dec.{ltb}
 use lib.ListN.{length, drop, length-drop}
+use Rattle.std.specs.Prelude.{Option, None}
 use Rattle.laws.proofs.Tests.{by_test, and-true}
 use Rattle.container.specs.Chunks.{Chunk, header_at, starts_whole, chunks_of, bytes_of}
 use Rattle.container.specs.Rules.{chunk_at, count}
@@ -35,13 +36,13 @@ whole_chunk f at e =
 
 -- a stage at the place, whatever was found on the way
 pub record At (f : List ℕ) (i at : ℕ) : Type 0 where
-  pub json : ℕ
-  pub bin : ℕ
+  pub json : Option ℕ
+  pub bin : Option ℕ
   pub stage : Stage f at i json bin
 
 -- where a chunk starts in the paper's words there is a stage
 pub reached : (f : List ℕ) (i at : ℕ) → 12 ≤ length f → Starts f i at → At f i at
-reached f zero at l starts_first = record { json = 0; bin = 0; stage = stage_first f l }
+reached f zero at l starts_first = record { json = None; bin = None; stage = stage_first f l }
 reached f (suc i) at l (starts_next {at = p} s c) =
     let a = reached f i p l s in
     let w = chunk_whole f p c in

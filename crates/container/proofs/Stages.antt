@@ -2,7 +2,7 @@
 -- Assumes nothing.
 use Prim.Native.Nat.{ℕ, ◌+◌, ◌*◌, ◌≤◌, ◌<◌}
 use mathlib.Core.Path.{◌≡◌, refl, sym, ap, ◌∙◌}
-use mathlib.Core.Bool.{true, false, cond, not, ◌&&◌, ◌||◌}
+use mathlib.Core.Bool.{true, false, not, ◌&&◌, ◌||◌}
 use mathlib.Core.List.{List, ◌∷◌}
 use native.Mathlib.Omega.{arith}
 use lib.Dec.{eqb, ltb}
@@ -10,27 +10,31 @@ use lib.ListN.{length, drop, length-drop}
 use lib.Seq.{drop-drop}
 use Rattle.laws.specs.Search.{least}
 use Rattle.laws.specs.Bytes.{little_at}
-use Rattle.laws.proofs.Search.{least_more}
+use Rattle.std.specs.Prelude.{Option, None}
+use Rattle.std.specs.Option.{option_or}
+use Rattle.std.specs.Bool.{then_some}
 use Rattle.laws.proofs.Lists.{drop_head, drop-tail}
 use Rattle.laws.proofs.Bytes.{little_at-drop}
 use Rattle.container.specs.Chunks.{Chunk, header_at, starts_whole, chunks_from, chunks_of, bytes_of}
 use Rattle.container.specs.Rules.{chunk_at, count, misplaced_json, misplaced_bin}
 use Rattle.container.specs.Found.{found_in}
+use Rattle.container.specs.Results.{first_wrong, survey_of}
+use Rattle.container.proofs.Firsts.{first_more}
 use Rattle.container.proofs.Chunks.{chunks_skip, chunks_none, chunks_more, whole_fits}
 
 -- `n` chunks are passed, and the next starts at `at`
-pub record Stage (f : List ℕ) (at n json bin : ℕ) : Type 0 where
+pub record Stage (f : List ℕ) (at n : ℕ) (json bin : Option ℕ) : Type 0 where
   pub within : at ≤ length f
   pub passed : 12 + 8 * n ≤ at
   pub known : n ≤ count f
   pub rest : drop n (chunks_of f) ≡ chunks_from 0 (drop at f)
   pub bytes : 12 + bytes_of (chunks_of f) ≡ at + bytes_of (chunks_from 0 (drop at f))
-  pub the_json : json ≡ least (misplaced_json f) n
-  pub the_bin : bin ≡ least (misplaced_bin f) n
+  pub the_json : json ≡ first_wrong (least (misplaced_json f) n) n
+  pub the_bin : bin ≡ first_wrong (least (misplaced_bin f) n) n
 
 -- before the first chunk
-pub stage_first : (f : List ℕ) → 12 ≤ length f → Stage f 12 0 0 0
-unfolding chunks_of
+pub stage_first : (f : List ℕ) → 12 ≤ length f → Stage f 12 0 None None
+unfolding chunks_of first_wrong
 stage_first f l =
     record {
       within = l;
@@ -43,7 +47,7 @@ stage_first f l =
     }
 
 -- the chunk that starts at `at` is chunk n
-module _ (f : List ℕ) (at n json bin : ℕ) (s : Stage f at n json bin) (whole : starts_whole (drop at f) ≡ true) where
+module _ (f : List ℕ) (at n : ℕ) (json bin : Option ℕ) (s : Stage f at n json bin) (whole : starts_whole (drop at f) ≡ true) where
   -- its header
   abbrev head : Chunk
   head = header_at (drop at f)
@@ -92,8 +96,8 @@ module _ (f : List ℕ) (at n json bin : ℕ) (s : Stage f at n json bin) (whole
   -- the stage behind it
   pub stage_next : (t : ℕ) → t ≡ head.chunk_type
       → Stage f (at + 8 + head.chunk_length) (n + 1)
-      (cond (eqb json n && not (eqb n 0 && not (eqb t 0x4E4F534A) || ltb 0 n && eqb t 0x4E4F534A)) (n + 1) json)
-      (cond (eqb bin n && not (eqb t 0x004E4942 && not (eqb n 1))) (n + 1) bin)
+      (option_or json (then_some (eqb n 0 && not (eqb t 0x4E4F534A) || ltb 0 n && eqb t 0x4E4F534A) n))
+      (option_or bin (then_some (eqb t 0x004E4942 && not (eqb n 1)) n))
   stage_next t e =
       let fits = whole_fits (drop at f) whole in
       record {
@@ -102,18 +106,18 @@ module _ (f : List ℕ) (at n json bin : ℕ) (s : Stage f at n json bin) (whole
         known = omega (arith, below);
         rest = next_rest;
         bytes = next_bytes;
-        the_json = rw (e, ← chunk_at_lem, s.the_json) (sym (least_more (misplaced_json f) n));
-        the_bin = rw (e, ← chunk_at_lem, s.the_bin) (sym (least_more (misplaced_bin f) n));
+        the_json = rw (e, ← chunk_at_lem, s.the_json) (sym (first_more (misplaced_json f) n));
+        the_bin = rw (e, ← chunk_at_lem, s.the_bin) (sym (first_more (misplaced_bin f) n));
       }
 
 -- where no whole chunk starts the pass is at its end
-pub stage_last : (f : List ℕ) (at n json bin : ℕ) → Stage f at n json bin → starts_whole (drop at f) ≡ false
-    → record { end = at; count = n; json = json; bin = bin } ≡ found_in f
-unfolding found_in bytes_of
+pub stage_last : (f : List ℕ) (at n : ℕ) (json bin : Option ℕ) → Stage f at n json bin → starts_whole (drop at f) ≡ false
+    → record { end = at; count = n; wrong_json = json; wrong_bin = bin } ≡ survey_of (found_in f)
+unfolding found_in survey_of bytes_of
 stage_last f at n json bin s stops =
     let none = chunks_none (drop at f) stops in
     let all : n ≡ count f = omega (arith, s.known, length-drop n (chunks_of f), ap length (s.rest ∙ none)) in
     let ends : at ≡ 12 + bytes_of (chunks_of f) = omega (arith, s.bytes, ap bytes_of none) in
-    let j : json ≡ least (misplaced_json f) (count f) = s.the_json ∙ ap (least (misplaced_json f)) all in
-    let b : bin ≡ least (misplaced_bin f) (count f) = s.the_bin ∙ ap (least (misplaced_bin f)) all in
+    let j : json ≡ first_wrong (least (misplaced_json f) (count f)) (count f) = s.the_json ∙ ap (λ (k : ℕ). first_wrong (least (misplaced_json f) k) k) all in
+    let b : bin ≡ first_wrong (least (misplaced_bin f) (count f)) (count f) = s.the_bin ∙ ap (λ (k : ℕ). first_wrong (least (misplaced_bin f) k) k) all in
     cc

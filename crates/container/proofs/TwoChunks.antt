@@ -9,6 +9,7 @@ use borrow.Author.Tests.{ltb-true, ltb-false}
 use lib.Dec.{ltb}
 use lib.ListN.{length, drop, get_or}
 use lib.Seq.{get_or-drop}
+use Rattle.std.specs.Prelude.{Option, None}
 use Rattle.laws.specs.Bytes.{little_at}
 use Rattle.laws.proofs.Tests.{by_test}
 use Rattle.container.specs.Chunks.{Chunk, header_at, starts_whole, chunks_of, bytes_of}
@@ -22,7 +23,7 @@ length_none [] h = refl
 length_none (c ∷ cs) h = absurd (omega arith)
 
 -- where a stage is not at the end of a filled file, a whole chunk starts
-stage_whole : (f : List ℕ) (at n json bin : ℕ) → Stage f at n json bin → 12 + bytes_of (chunks_of f) ≡ length f → at < length f
+stage_whole : (f : List ℕ) (at n : ℕ) (json bin : Option ℕ) → Stage f at n json bin → 12 + bytes_of (chunks_of f) ≡ length f → at < length f
     → starts_whole (drop at f) ≡ true
 unfolding bytes_of
 stage_whole f at n json bin s filled l =
@@ -31,12 +32,12 @@ stage_whole f at n json bin s filled l =
 
 module _ (f : List ℕ) (l : 20 ≤ length f) (filled : 12 + bytes_of (chunks_of f) ≡ length f) where
   -- the stage before chunk 0
-  first : Stage f 12 0 0 0
+  first : Stage f 12 0 None None
   first = stage_first f (omega arith)
 
   -- chunk 0 is there
   first_whole : starts_whole (drop 12 f) ≡ true
-  first_whole = stage_whole f 12 0 0 0 first filled (omega arith)
+  first_whole = stage_whole f 12 0 None None first filled (omega arith)
 
   -- so there is a chunk 0
   pub chunks_some : 0 < count f
@@ -47,17 +48,17 @@ module _ (f : List ℕ) (l : 20 ≤ length f) (filled : 12 + bytes_of (chunks_of
 
   -- its chunkLength
   pub json_length : little_at f 12 4 ≡ (chunk_at f 0).chunk_length
-  json_length = length_at f 12 0 0 0 first first_whole ∙ ap (λ (c : Chunk). c.chunk_length) (sym (chunk_at_lem f 12 0 0 0 first first_whole))
+  json_length = length_at f 12 0 None None first first_whole ∙ ap (λ (c : Chunk). c.chunk_length) (sym (chunk_at_lem f 12 0 None None first first_whole))
 
   -- where chunk 1 would start
   abbrev at : ℕ
   at = 20 + (chunk_at f 0).chunk_length
 
   -- the stage there
-  second : (j : ℕ) × (b : ℕ) × Stage f at 1 j b
+  second : (j : Option ℕ) × (b : Option ℕ) × Stage f at 1 j b
   second =
-      let e : 20 + (header_at (drop 12 f)).chunk_length ≡ at = ap (λ (c : Chunk). 20 + c.chunk_length) (sym (chunk_at_lem f 12 0 0 0 first first_whole)) in
-      (_, _, rw e at (stage_next f 12 0 0 0 first first_whole (header_at (drop 12 f)).chunk_type refl))
+      let e : 20 + (header_at (drop 12 f)).chunk_length ≡ at = ap (λ (c : Chunk). 20 + c.chunk_length) (sym (chunk_at_lem f 12 0 None None first first_whole)) in
+      (_, _, rw e at (stage_next f 12 0 None None first first_whole (header_at (drop 12 f)).chunk_type refl))
 
   -- it is in the file or at its end
   pub json_within : at ≤ length f

@@ -2,7 +2,7 @@
 -- Assumes nothing: these are definitions.
 use Rattle.std.specs.Prelude.{ℕ, ◌+◌, ◌≡◌, true, false, List}
 use Rattle.laws.specs.Verdict.{Smallest}
-use Rattle.container.specs.declared.Container.{Container}
+use Rattle.container.specs.Records.{Container}
 use Rattle.container.specs.Rules.{refused}
 use Rattle.container.specs.Meaning.{Broken, Starts, IsChunk, chunk_length_at, chunk_type_at, JSON, BIN}
 

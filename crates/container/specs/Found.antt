@@ -1,7 +1,7 @@
 -- What one pass over the chunks finds. Assumes nothing: these are definitions.
 use Rattle.std.specs.Prelude.{ℕ, ◌+◌, List}
 use Rattle.laws.specs.Search.{least}
-use Rattle.container.specs.declared.Found.{Found}
+use Rattle.container.specs.Records.{Found}
 use Rattle.container.specs.Chunks.{chunks_of, bytes_of}
 use Rattle.container.specs.Rules.{count, misplaced_json, misplaced_bin}
 

@@ -3,7 +3,7 @@
 use Rattle.std.specs.Prelude.{ℕ, ◌+◌, Bool, false, cond, not, ◌&&◌, ◌||◌, List, [], ◌∷◌, ◌++◌, map, ltb, eqb, length, get_or}
 use Rattle.laws.specs.Bytes.{little_at}
 use Rattle.laws.specs.Search.{least, any_below, first_true}
-use Rattle.container.specs.declared.Container.{Container}
+use Rattle.container.specs.Records.{Container}
 use Rattle.container.specs.Chunks.{Chunk, chunks_of, bytes_of}
 
 -- chunk i of the file, zeros where there is none

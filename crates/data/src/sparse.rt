@@ -2,23 +2,22 @@
 ghost use Rattle.std.specs.Prelude.{◌≡◌, ◌+◌, ◌*◌, ◌≤◌, ◌<◌};
 ghost use Rattle.laws.specs.Bytes.{little_at};
 ghost use Rattle.laws.specs.Search.{any_below};
+ghost use Rattle.tables.specs.Results.{outcome_of};
 ghost use Rattle.data.specs.Sparse.{misordered, rule40, sparse_finding};
 
 use crate::byte_at;
 use tables::finding::Finding;
-use tables::{Accessor, BufferView, finding, layout};
+use tables::{Accessor, BufferView, layout};
 
 // The number in the `size` bytes from `at` on; bytes past the end of the file are 0.
+// Stays: no twin of access's little_at, which requires the bytes to be in the file and so tests none.
 fn number_at(file: &[u8], at: usize, size: u32) -> u64
     requires { size ≤ 4 }
     ensures { (result ≡ little_at file.now at size) × (result < 4294967296) }
 {
     let mut n: u64 = 0;
-    let mut left: u32 = size;
-    while 0 < left {
-        left -= 1;
-        let byte = byte_at(file, at, left as usize);
-        n = n * 256 + byte as u64;
+    for k in (0..size).rev() {
+        n = n * 256 + u64::from(byte_at(file, at, k as usize));
     }
     n
 }
@@ -29,15 +28,13 @@ fn are_misordered(file: &[u8], first: usize, size: u32, entries: u32, count: u32
     requires { (size ≤ 4) × (first ≤ 12884901885) }
     ensures { result ≡ any_below (misordered (λ k. little_at file.now (first + size * k) size) count) entries }
 {
-    let mut k: u32 = 0;
     let mut lowest: u64 = 0;
-    while k < entries {
+    for k in 0..entries {
         let index = number_at(file, first + (size as usize) * (k as usize), size);
-        if (count as u64 <= index) | (index < lowest) {
+        if (u64::from(count) <= index) | (index < lowest) {
             return true;
         }
         lowest = index + 1;
-        k += 1;
     }
     false
 }
@@ -57,28 +54,22 @@ fn is_broken(file: &[u8], start: u32, a: Accessor, indices: BufferView) -> bool
 }
 
 // Rule 40 over the first count records, of at most 128, in a buffer that starts at byte `start`.
+// Stays: arrays of the tables' capacity with a count, as Tables has them for C; `sparse_finding` cuts a count above it.
 pub fn sparse_rule(
     file: &[u8],
     start: u32,
     accessors: [Accessor; 128],
     views: [BufferView; 64],
     count: u32,
-) -> Finding
-    ensures { result ≡ sparse_finding file.now start accessors views count }
+) -> Result<(), Finding>
+    ensures { result ≡ outcome_of (sparse_finding file.now start accessors views count) }
 {
-    let n = finding::at_most(count, 128) as usize;
-    let mut i: usize = 0;
-    while i < n {
-        let a = accessors[i];
-        let at = finding::at_most(a.sparse.indices_view, 63) as usize;
-        let broken = is_broken(file, start, a, views[at]);
-        if broken {
-            return Finding {
-                rule: 40,
-                item: i as u32,
-            };
+    for i in 0..count.min(128) {
+        let a = accessors[i as usize];
+        let at = a.sparse.indices_view.min(63);
+        if is_broken(file, start, a, views[at as usize]) {
+            return Err(Finding { rule: 40, item: i });
         }
-        i += 1;
     }
-    Finding { rule: 0, item: 0 }
+    Ok(())
 }

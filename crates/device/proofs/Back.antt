@@ -19,7 +19,7 @@ use Rattle.device.specs.Words.{view_words, accessor_words, list_words, head_word
 use Rattle.device.specs.Meaning.{Stored}
 use Rattle.device.proofs.Entries.{entries_is}
 use Rattle.device.proofs.Rows.{row_at}
-use Rattle.device.proofs.Widths.{view_width, accessor_width, list_width, head_width}
+use Rattle.device.specs.Widths.{view_width, accessor_width, list_width, head_width}
 use Rattle.device.proofs.Sections.{views_length, accessors_length, nodes_length, scenes_length}
 
 -- a flag

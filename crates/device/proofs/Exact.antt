@@ -17,7 +17,7 @@ use Rattle.device.specs.Words.{tables_of, head_words, words_of}
 use Rattle.device.specs.Places.{place_of}
 use Rattle.device.specs.Meaning.{Stored, whole_walk}
 use Rattle.device.proofs.Walks.{walk_few, walk_whole}
-use Rattle.device.proofs.Widths.{head_width}
+use Rattle.device.specs.Widths.{head_width}
 use Rattle.device.proofs.Sections.{views_length, accessors_length, nodes_length, scenes_length}
 use Rattle.device.proofs.Back.{flag_back, head_word, views_back, accessors_back, nodes_back, children_back, scenes_back, roots_back}
 

@@ -3,8 +3,8 @@ pub mod Concerned
 pub mod Cuts
 pub mod Walks
 pub mod Rows
-pub mod Widths
 pub mod Sections
 pub mod Back
 pub mod Exact
 pub mod Bounds
+pub mod Bits

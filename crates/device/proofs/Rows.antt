@@ -5,8 +5,10 @@ use mathlib.Core.List.{List, [], ◌∷◌, ◌++◌, append_assoc, append-nil}
 use native.Mathlib.Nat.{mul-suc, mul-zero, mul-le-mul_left}
 use native.Mathlib.Numerals.{add-one}
 use native.Mathlib.Omega.{arith}
-use lib.ListN.{get_or, set, length, take, drop, length-append}
-use lib.Seq.{take-suc, length-take-le, take_all, take-length, drop_at, drop-drop, paste, paste-suc}
+use lib.ListN.{get_or, length, take, drop, length-append}
+use lib.Seq.{take-suc, length-take-le, take_all, take-length, drop_at, drop-drop, paste}
+use borrow.Rule.Slice.PartMut.{put_mid}
+use Rattle.std.proofs.lemmas.Slice.{put_mid-paste}
 use Rattle.scene.specs.Steps.{written}
 use Rattle.scene.proofs.Laws.{written_nil, written_more}
 use Rattle.device.specs.Words.{rows}
@@ -54,15 +56,20 @@ module _ {A : Type 0} (f : A → List ℕ) (k : ℕ) (width : (r : A) → length
     pub rows_all : (i : ℕ) → length rs ≤ i → written d p (rows f (take i rs)) ≡ written d p (rows f rs)
     rows_all i h = rw (take_all i rs h)
 
--- one word more of a list that is copied into d
-pub paste_more : (d : List ℕ) (at : ℕ) (s : List ℕ) (i : ℕ) → at + i < length d → i < length s
-    → set (paste d at s i) (at + i) (get_or s i 0) ≡ paste d at s (i + 1)
-paste_more d at s i h l = paste-suc d at s i 0 h l ∙ rw (add-one i) refl
-
 -- all of it
 pub paste_all : (d : List ℕ) (at : ℕ) (s : List ℕ) (i : ℕ) → i ≡ length s → paste d at s i ≡ written d at s
 unfolding written
 paste_all d at s i e = rw (e, take-length s) (append_assoc (take at d) s (drop (at + length s) d))
+
+-- the words of a list in place of as many
+pub put_written : (d : List ℕ) (at k : ℕ) (xs ys : List ℕ) → ys ≡ xs → k ≡ length xs → put_mid at k d ys ≡ written d at xs
+put_written d at k xs ys e n = put_mid-paste at k d ys xs k e refl n ∙ paste_all d at xs k n
+
+-- numbers are their own words
+pub rows_numbers : (xs : List ℕ) → rows (λ n. n ∷ []) xs ≡ xs
+unfolding rows
+rows_numbers [] = refl
+rows_numbers (x ∷ xs) = rw (rows_numbers xs)
 
 -- record i stands at k words times i, whatever stands after the last
 pub row_at : {A : Type 0} (f : A → List ℕ) (k : ℕ) → ((r : A) → length (f r) ≡ k)

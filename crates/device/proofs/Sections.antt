@@ -9,7 +9,7 @@ use Rattle.scene.specs.Steps.{written}
 use Rattle.scene.proofs.Laws.{written_front, written_more}
 use Rattle.device.specs.Words.{view_words, accessor_words, list_words, head_words, rows, words_of}
 use Rattle.device.specs.Meaning.{Stored}
-use Rattle.device.proofs.Widths.{view_width, accessor_width, list_width, head_width}
+use Rattle.device.specs.Widths.{view_width, accessor_width, list_width, head_width}
 use Rattle.device.proofs.Rows.{rows_length}
 
 -- the words w so far: d with the p words xs at the front

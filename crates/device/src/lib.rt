@@ -1,5 +1,6 @@
 // What the C interface calls, through `device_c`: check, and readings over tables that are 4,000 words. glb.h has the layout and
 // says what is lent.
+// Stays: numbers for refusals and lent places for answers, since `device_c` hands these on to C, with these clauses.
 #![tactic(auto)]
 
 ghost use Rattle.std.specs.Prelude.{◌≡◌};
@@ -9,6 +10,10 @@ ghost use Rattle.scene.specs.Walk.{walk_of};
 ghost use Rattle.device.specs.Places.{place_of};
 ghost use Rattle.glb.specs.Check.{check_of};
 ghost use Rattle.device.specs.Words.{tables_of, words_of};
+
+use access::Reading;
+use glb::Checked;
+use scene::Walked;
 
 mod lists;
 pub mod put;
@@ -22,9 +27,8 @@ pub fn glb_check(file: &[u8], words: &mut [u32; 4000], item: &mut u32) -> u32
         × (tables_of words.new ≡ (check_of file.now).tables)
         × (item.new ≡ (check_of file.now).item) }
 {
-    let c = glb::check(file);
-    let t = c.tables;
-    put::put_tables(words, t);
+    let c = Checked::from(glb::check(file));
+    put::put_tables(words, c.tables);
     *item = c.item;
     c.verdict
 }
@@ -41,9 +45,8 @@ pub fn glb_component(
     ensures { (result ≡ (component_of file.now (tables_of words.now) accessor element component).number)
         × (value.new ≡ (component_of file.now (tables_of words.now) accessor element component).value) }
 {
-    let r = readings::component(file, words, accessor, element, component);
-    let v = r.value;
-    *value = v;
+    let r = Reading::from(readings::component(file, words, accessor, element, component));
+    *value = r.value;
     r.number
 }
 
@@ -52,9 +55,16 @@ pub fn glb_view(file: &[u8], words: &[u32; 4000], view: u32, place: &mut [u64; 2
     ensures { (result ≡ view_number_of file.now (tables_of words.now) view)
         × (place.new ≡ place_of file.now (tables_of words.now) view) }
 {
-    let p = readings::view(file, words, view);
-    *place = [p.start, p.length];
-    p.number
+    match readings::view(file, words, view) {
+        Ok(p) => {
+            *place = [p.start as u64, p.length as u64];
+            0
+        }
+        Err(refusal) => {
+            *place = [0, 0];
+            refusal.number()
+        }
+    }
 }
 
 // The nodes of a scene into a lent list, and how many they are: 64, 66, 65, or 0.
@@ -63,7 +73,7 @@ pub fn glb_walk(words: &[u32; 4000], scene: u32, list: &mut [u16], count: &mut u
         × (count.new ≡ (walk_of (tables_of words.now) scene list.old).walked.count)
         × (list.new ≡ (walk_of (tables_of words.now) scene list.old).list) }
 {
-    let w = lists::walk(words, scene, list);
+    let w = Walked::from(lists::walk(words, scene, list));
     *count = w.count as u32;
     w.number
 }

@@ -1,11 +1,12 @@
 // The records concerned in a reading, from the words.
+// Stays: no From, since neither the words nor the records are types of this crate.
 ghost use Rattle.std.specs.Prelude.{◌≡◌, ◌+◌, ◌<◌, ◌≤◌, drop};
 ghost use Rattle.tables.specs.Fitness.{extent_of, selection_of, view_selection_of};
 ghost use Rattle.tables.specs.Records.{view_at};
 ghost use Rattle.device.specs.Words.{view_from, sparse_from, accessor_from, tables_of};
 
 use tables::selection::{Extent, Selection, ViewSelection};
-use tables::{Accessor, BufferView, Sparse, finding};
+use tables::{Accessor, BufferView, Sparse};
 
 // The counts and the buffer's place.
 fn extent(words: &[u32; 4000]) -> Extent
@@ -42,7 +43,7 @@ fn view_from(words: &[u32; 4000], at: usize) -> BufferView
 fn view_at(words: &[u32; 4000], i: u32) -> BufferView
     ensures { result ≡ view_at (tables_of words.now).view_records i }
 {
-    let last = finding::at_most(i, 63) as usize;
+    let last = i.min(63) as usize;
     view_from(words, 16 + 8 * last)
 }
 
@@ -81,6 +82,8 @@ fn accessor_from(words: &[u32; 4000], at: usize) -> Accessor
 }
 
 // What a component reading looks at.
+// Stays: tables' `select` fills the same record from Tables. One function over both takes a trait of three methods with two
+// impls, and is longer than the two.
 pub(crate) fn selection(words: &[u32; 4000], accessor: u32) -> Selection
     requires { accessor < 128 }
     ensures { result ≡ selection_of (tables_of words.now) accessor }

@@ -1,14 +1,17 @@
 pub mod Names
+pub mod Flags
 pub mod Members
 pub mod Arrays
 pub mod Buffers
 pub mod Views
 pub mod Sparse
 pub mod Accessors
+pub mod Results
 pub mod Lists
 pub mod Walks
 pub mod Packs
 pub mod Table
 pub mod Rules
 pub mod Said
+pub mod Tops
 pub mod Meaning

@@ -3,10 +3,12 @@
 
 ghost use Rattle.std.specs.Prelude.{◌≡◌};
 ghost use Rattle.document.specs.Said.{document_of};
+ghost use Rattle.document.specs.Tops.{document_answer};
 
-use crate::top::{refuse, top};
-use graph::verdict::Fault;
+use crate::top::top;
+use graph::verdict;
 use tables::Tables;
+use text::Fault;
 
 mod asset;
 mod members;
@@ -14,25 +16,19 @@ mod nodes;
 mod records;
 mod top;
 
-// The smallest of rules 9 to 18 that the chunk breaks, 0 if none, with the place of rules 9 to 13; what the text says as
-// tables, the buffer's place in the file left 0, and of each accessor whether byteOffset is there (rule 25); rules 41 to 46
-// of the text's lists. Refused, all is 0.
+// What the text says, where it breaks none of rules 9 to 18: its tables, the buffer's place in the file left 0, of each
+// accessor whether byteOffset is there (rule 25), and rules 41 to 46 of the text's lists.
 #[derive(Clone, Copy)]
 pub struct Document {
-    pub number: u32,
-    pub place: usize,
     pub tables: Tables,
     pub placed: [bool; 128],
-    pub graph: Fault,
+    pub graph: Result<(), verdict::Fault>,
 }
 
-// Reads a JSON chunk.
-pub fn read(chunk: &[u8]) -> Document
-    ensures { result ≡ document_of chunk.now }
+// Reads a JSON chunk. The fault is the smallest of rules 9 to 18 that the chunk breaks, with the place of rules 9 to 13.
+pub fn read(chunk: &[u8]) -> Result<Document, Fault>
+    ensures { result ≡ document_answer (document_of chunk.now) }
 {
-    let fault = text::check(chunk);
-    if fault.number != 0 {
-        return refuse(fault.number, fault.place);
-    }
+    text::check(chunk)?;
     top(chunk, nav::start(chunk))
 }

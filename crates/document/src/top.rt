@@ -1,151 +1,148 @@
 // The top: rules 14 to 18, and the tables.
-ghost use Rattle.std.specs.Prelude.{◌≡◌, [], ◌∷◌, ◌≤◌, drop};
+ghost use Rattle.std.specs.Prelude.{◌≡◌, ◌≤◌, IsTrue, drop};
 ghost use Rattle.json_text.specs.Tree.{Json};
 ghost use Rattle.nav.specs.Places.{Stands};
-ghost use Rattle.nav.specs.Members.{gather_of};
-ghost use Rattle.document.specs.Names.{'asset', 'extensionsRequired', 'buffers', 'bufferViews'};
-ghost use Rattle.document.specs.Names.{'accessors', 'nodes', 'scenes', 'scene'};
-ghost use Rattle.document.specs.Rules.{rule_by};
-ghost use Rattle.document.specs.Said.{tables_from, refused, document_in};
+ghost use Rattle.document.specs.Said.{document_in};
+ghost use Rattle.document.specs.Tops.{Few, PlacesTo, ReadsTop, is_over, tables_read, document_answer};
 
-use crate::Document;
 use crate::asset::is_asset;
-use crate::members::{Number, integer};
+use crate::members::{Unfit, optional};
 use crate::nodes::graph_fault;
-use crate::nodes::lists::{NodesRead, ScenesRead, nodes, scenes, sound_nodes, sound_scenes};
-use crate::records::accessors::{AccessorsRead, accessors};
-use crate::records::buffers::{BuffersRead, buffers};
-use crate::records::views::{ViewsRead, views};
-use graph::verdict::Fault;
-use nav::members::{Places, gather};
+use crate::nodes::lists::{ListsRead, read_lists, sound};
+use crate::records::Counted;
+use crate::records::accessors::Accessors;
+use crate::records::buffers::Buffers;
+use crate::records::views::Views;
+use crate::{Document, records};
+use nav::members::gather;
 use tables::Tables;
+use text::Fault;
 
-// The first of rules 14 to 18 that is broken, 0 if none.
-fn first_rule(asset: bool, extensions: bool, kinds: bool, counts: bool, uri: bool) -> u32
-    ensures { result ≡ rule_by (asset ∷ extensions ∷ kinds ∷ counts ∷ uri ∷ []) }
-{
-    if asset {
-        return 14;
-    }
-    if extensions {
-        return 15;
-    }
-    if kinds {
-        return 16;
-    }
-    if counts {
-        return 17;
-    }
-    if uri { 18 } else { 0 }
+// What is read of the members of the top, where rule 16 holds of all of them.
+#[derive(Clone, Copy)]
+pub(crate) struct TopRead {
+    pub buffers: Counted<Buffers>,
+    pub views: Counted<Views>,
+    pub accessors: Counted<Accessors>,
+    pub nodes: ListsRead<128, 128>,
+    pub scenes: ListsRead<8, 1024>,
+    pub scene: Option<u32>,
 }
 
-// A rule is broken: nothing is said.
-pub(crate) fn refuse(number: u32, place: usize) -> Document
-    ensures { result ≡ refused number place }
+// A rule that is broken by the tree: it names no place.
+// Stays: a rule is its number, as in the rule table and in text's Fault, of which the definition document_of speaks.
+fn rule(number: u32) -> Fault
+    ensures { result ≡ record { number = number; place = 0 } }
 {
-    let tables = tables::empty();
-    Document {
-        number,
-        place,
-        tables,
-        placed: [false; 128],
-        graph: Fault { number: 0, item: 0 },
+    Fault { number, place: 0 }
+}
+
+// Rule 16.
+impl From<Unfit> for Fault {
+    ghost from_gives = { λ _ e. e ≡ record { number = 16; place = 0 } };
+
+    fn from(_: Unfit) -> Fault {
+        rule(16)
     }
 }
 
-// The tables of what was read, where no count passes its capacity. The buffer's place in the file is not known here.
-fn tables_of(
-    buffers: BuffersRead,
-    views: ViewsRead,
-    accessors: AccessorsRead,
-    nodes: NodesRead,
-    scenes: ScenesRead,
-    scene: Number,
-) -> Tables
-    requires count_bound { buffers.count ≤ 1 }
-    requires count_bound_2 { views.count ≤ 64 }
-    requires count_bound_3 { accessors.count ≤ 128 }
-    requires count_bound_4 { nodes.count ≤ 128 }
-    requires count_bound_5 { scenes.count ≤ 8 }
-    ensures { result ≡ tables_from buffers views accessors nodes scenes scene }
+// The members at these places, but for the first two, `asset` and `extensionsRequired` (rule 16).
+fn read_members(s: &[u8], places: [Option<usize>; 8]) -> Result<TopRead, Unfit>
+    ensures { (j : Json) → PlacesTo s.now j places → ReadsTop j result }
 {
-    let view_records = views.records;
-    let accessor_records = accessors.records;
-    let node_lists = nodes.lists;
-    let children = nodes.children;
-    let scene_lists = scenes.lists;
-    let roots = scenes.roots;
-    Tables {
-        buffers: buffers.count as u32,
-        views: views.count as u32,
-        accessors: accessors.count as u32,
-        nodes: nodes.count as u32,
-        scenes: scenes.count as u32,
-        buffer_start: 0,
-        buffer_length: buffers.records[0].byte_length,
-        scene: scene.value,
-        has_scene: scene.has,
-        view_records,
-        accessor_records,
-        node_lists,
-        children,
-        scene_lists,
-        roots,
-    }
+    let [_, _, buffers, views, accessors, nodes, scenes, scene] = places;
+    let buffers = records::read(s, buffers)?;
+    let views = records::read(s, views)?;
+    let accessors = records::read(s, accessors)?;
+    let nodes = read_lists(s, nodes, b"children")?;
+    let scenes = read_lists(s, scenes, b"nodes")?;
+    let scene = optional(s, scene)?;
+    Ok(TopRead {
+        buffers,
+        views,
+        accessors,
+        nodes,
+        scenes,
+        scene,
+    })
 }
 
-// The places of the members of the top.
-fn top_places(s: &[u8], at: usize) -> Places
-    ensures { result ≡ gather_of s.now (drop at s.now)
-        'asset' 'extensionsRequired' 'buffers' 'bufferViews' 'accessors' 'nodes' 'scenes' 'scene' }
-{
-    gather(
-        s,
-        at,
-        b"asset",
-        b"extensionsRequired",
-        b"buffers",
-        b"bufferViews",
-        b"accessors",
-        b"nodes",
-        b"scenes",
-        b"scene",
-    )
+impl TopRead {
+    // Whether a count passes its capacity (rule 17).
+    fn is_over(&self) -> bool
+        ensures { result ≡ is_over self.now }
+    {
+        (1 < self.buffers.count)
+            | (64 < self.views.count)
+            | (128 < self.accessors.count)
+            | (128 < self.nodes.count)
+            | (8 < self.scenes.count)
+    }
+
+    // The tables of what was read, where no count passes its capacity. The buffer's place in the file is not known here.
+    fn tables(&self) -> Tables
+        requires { Few self.now }
+        ensures { result ≡ tables_read self.now }
+    {
+        Tables {
+            buffers: self.buffers.count as u32,
+            views: self.views.count as u32,
+            accessors: self.accessors.count as u32,
+            nodes: self.nodes.count as u32,
+            scenes: self.scenes.count as u32,
+            buffer_start: 0,
+            buffer_length: self.buffers.kept.records[0].byte_length,
+            scene: self.scene.unwrap_or(0),
+            has_scene: self.scene.is_some(),
+            view_records: self.views.kept.records,
+            accessor_records: self.accessors.kept.records,
+            node_lists: self.nodes.lists,
+            children: self.nodes.entries,
+            scene_lists: self.scenes.lists,
+            roots: self.scenes.entries,
+        }
+    }
 }
 
 // The object at `at`.
-pub(crate) fn top(s: &[u8], at: usize) -> Document
-    ensures { (j : Json) → Stands (drop at s.now) j → result ≡ document_in j }
+pub(crate) fn top(s: &[u8], at: usize) -> Result<Document, Fault>
+    ensures { (j : Json) → Stands (drop at s.now) j → result ≡ document_answer (document_in j) }
 {
-    let places = top_places(s, at);
-    let asset = is_asset(s, places.a);
-    let buffers = buffers(s, places.c);
-    let views = views(s, places.d);
-    let accessors = accessors(s, places.e);
-    let nodes = nodes(s, places.f);
-    let scenes = scenes(s, places.g);
-    let scene = integer(s, places.h, false);
-    let good = buffers.good & views.good & accessors.good & nodes.good & scenes.good & scene.good;
-    let many = (1 < buffers.count)
-        | (64 < views.count)
-        | (128 < accessors.count)
-        | (128 < nodes.count)
-        | (8 < scenes.count);
-    let buffer = buffers.records[0];
-    let number = first_rule(!asset, places.b != 0, !good, many, buffer.has_uri);
-    if number != 0 {
-        return refuse(number, 0);
+    let found = gather::<8>(
+        s,
+        at,
+        &[
+            b"asset",
+            b"extensionsRequired",
+            b"buffers",
+            b"bufferViews",
+            b"accessors",
+            b"nodes",
+            b"scenes",
+            b"scene",
+        ],
+    );
+    let [asset, extensions, _, _, _, nodes, scenes, _] = found.places;
+    if !is_asset(s, asset) {
+        return Err(rule(14));
     }
-    let graph = graph_fault(s, places.f, nodes.count, places.g, scenes.count);
-    let kept_nodes = sound_nodes(graph.number, nodes);
-    let kept_scenes = sound_scenes(graph.number, scenes);
-    let tables = tables_of(buffers, views, accessors, kept_nodes, kept_scenes, scene);
-    let placed = accessors.placed;
-    Document {
-        number: 0,
-        place: 0,
-        tables,
-        placed,
+    if extensions.is_some() {
+        return Err(rule(15));
+    }
+    let mut read = read_members(s, found.places)?;
+    if read.is_over() {
+        return Err(rule(17));
+    }
+    let buffer = read.buffers.kept.records[0];
+    if buffer.has_uri {
+        return Err(rule(18));
+    }
+    let graph = graph_fault(s, nodes, read.nodes.count, scenes, read.scenes.count);
+    read.nodes = sound(graph, read.nodes);
+    read.scenes = sound(graph, read.scenes);
+    Ok(Document {
+        tables: read.tables(),
+        placed: read.accessors.kept.placed,
         graph,
-    }
+    })
 }

@@ -1,6 +1,8 @@
 pub mod Families
 pub mod Opening
 mod Ranges
+mod Order
+pub mod Answered
 pub mod Finds
 pub mod Found
 pub mod Exact

@@ -1,8 +1,11 @@
 // Rules 19 to 47, on the tables and the file's data.
-ghost use Rattle.std.specs.Prelude.{◌≡◌, ◌<◌};
+ghost use Rattle.std.specs.Prelude.{◌≡◌, ◌<◌, Ok};
+ghost use Rattle.container.specs.Results.{record_of};
+ghost use Rattle.graph.specs.Results.{fault_of, outcome_of as graph_outcome};
+ghost use Rattle.tables.specs.Results.{outcome_of};
 ghost use Rattle.glb.specs.Check.{buffer_finding, scene_finding, late_finding};
 
-use container::Container;
+use container::{Chunk, Container};
 use data::buffer::buffer_rule;
 use data::sparse::sparse_rule;
 use graph::verdict::Fault;
@@ -12,24 +15,27 @@ use tables::finding::Finding;
 use tables::views::check_views;
 
 // Rules 19 and 20, with a buffer alone.
-fn buffer_finding(file: &[u8], c: Container, buffers: u32, byte_length: u32) -> Finding
-    ensures { result ≡ buffer_finding file.now c buffers byte_length }
+fn check_buffer(file: &[u8], c: Container, buffers: u32, byte_length: u32) -> Result<(), Finding>
+    ensures { result ≡ outcome_of (buffer_finding file.now (record_of (Ok c)) buffers byte_length) }
 {
     if buffers == 0 {
-        return Finding { rule: 0, item: 0 };
+        return Ok(());
     }
-    let rule = buffer_rule(file, byte_length, c.has_bin, c.bin_start, c.bin_length);
-    Finding { rule, item: 0 }
+    let bin = c.bin.unwrap_or(Chunk {
+        start: 0,
+        length: 0,
+    });
+    buffer_rule(file, byte_length, c.bin.is_some(), bin.start, bin.length)
 }
 
 // Rule 47: `scene` is there and not below the number of scenes.
-fn scene_finding(has_scene: bool, scene: u32, scenes: u32) -> Finding
-    ensures { result ≡ scene_finding has_scene scene scenes }
+fn check_scene(has_scene: bool, scene: u32, scenes: u32) -> Result<(), Finding>
+    ensures { result ≡ outcome_of (scene_finding has_scene scene scenes) }
 {
     if has_scene & (scenes <= scene) {
-        return Finding { rule: 47, item: 0 };
+        return Err(Finding { rule: 47, item: 0 });
     }
-    Finding { rule: 0, item: 0 }
+    Ok(())
 }
 
 // The first of rules 19 to 47 that is broken. `placed` says of each accessor whether byteOffset is there, `graph` has what
@@ -39,34 +45,23 @@ pub(crate) fn late_rule(
     c: Container,
     t: Tables,
     placed: [bool; 128],
-    graph: Fault,
-) -> Finding
-    requires { graph.item < 4294967296 }
-    ensures { result ≡ late_finding file.now c t placed graph }
+    graph: Result<(), Fault>,
+) -> Result<(), Finding>
+    requires graph_answer { graph ≡ graph_outcome (fault_of graph) }
+    requires item_bound { (fault_of graph).item < 4294967296 }
+    ensures { result ≡ outcome_of (late_finding file.now (record_of (Ok c)) t placed (fault_of graph)) }
 {
-    let buffer = buffer_finding(file, c, t.buffers, t.buffer_length);
-    if buffer.rule != 0 {
-        return buffer;
-    }
+    check_buffer(file, c, t.buffers, t.buffer_length)?;
     let view_records = t.view_records;
-    let views = check_views(t.buffers, t.buffer_length, view_records, t.views);
-    if views.rule != 0 {
-        return views;
-    }
+    check_views(t.buffers, t.buffer_length, view_records, t.views)?;
     let records = t.accessor_records;
-    let accessors = check_accessors(t.views, view_records, records, placed, t.accessors);
-    if accessors.rule != 0 {
-        return accessors;
+    check_accessors(t.views, view_records, records, placed, t.accessors)?;
+    sparse_rule(file, t.buffer_start, records, view_records, t.accessors)?;
+    if let Err(fault) = graph {
+        return Err(Finding {
+            rule: fault.number,
+            item: fault.item as u32,
+        });
     }
-    let sparse = sparse_rule(file, t.buffer_start, records, view_records, t.accessors);
-    if sparse.rule != 0 {
-        return sparse;
-    }
-    if graph.number != 0 {
-        return Finding {
-            rule: graph.number,
-            item: graph.item as u32,
-        };
-    }
-    scene_finding(t.has_scene, t.scene, t.scenes)
+    check_scene(t.has_scene, t.scene, t.scenes)
 }

@@ -1,18 +1,60 @@
-// `check`: the verdict, item and tables of any bytes, rules 1 to 47.
+// `check`: the tables of any bytes, or the smallest of rules 1 to 47 that they break.
 #![tactic(auto)]
 
 ghost use Rattle.std.specs.Prelude.{◌≡◌, ◌<◌};
-ghost use Rattle.glb.specs.Check.{refused, placed_at, check_document, check_of};
+ghost use Rattle.glb.specs.Check.{placed_at, check_of};
+ghost use Rattle.glb.specs.Results.{outcome_of, checked_of};
 
 use crate::late::late_rule;
-use container::Container;
-use document::Document;
+use container::Chunk;
 use tables::Tables;
+use tables::finding::Finding;
 
 mod late;
 
-// The smallest rule that the file breaks, 0 if none, with the smallest item that breaks it, 0 where no item is named, and
-// the tables. Refused, every count and entry in the tables is 0.
+// The smallest rule that the file breaks, with the smallest item that breaks it, 0 where no item is named.
+// Stays: rules are numbers, as in the rule table, in `check_of` and in the verdict that C gets.
+#[derive(Clone, Copy, Debug, PartialEq, Eq)]
+pub struct Fault {
+    pub rule: u32,
+    pub item: u32,
+}
+
+impl From<container::Fault> for Fault {
+    ghost from_gives = { λ e fault. fault ≡ record { rule = e.rule; item = e.item } };
+
+    fn from(e: container::Fault) -> Fault {
+        Fault {
+            rule: e.rule,
+            item: e.item,
+        }
+    }
+}
+
+impl From<text::Fault> for Fault {
+    ghost from_gives = { λ e fault. fault ≡ record { rule = e.number; item = 0 } };
+
+    fn from(e: text::Fault) -> Fault {
+        Fault {
+            rule: e.number,
+            item: 0,
+        }
+    }
+}
+
+impl From<Finding> for Fault {
+    ghost from_gives = { λ e fault. fault ≡ record { rule = e.rule; item = e.item } };
+
+    fn from(e: Finding) -> Fault {
+        Fault {
+            rule: e.rule,
+            item: e.item,
+        }
+    }
+}
+
+// An answer of `check` as C has it: the verdict is 0 where no rule is fault. Refused, every count and entry in the tables is 0.
+// Stays: the C interface and the definition `check_of` have a verdict and an item beside the tables.
 #[repr(C)]
 #[derive(Clone, Copy)]
 pub struct Checked {
@@ -21,65 +63,49 @@ pub struct Checked {
     pub tables: Tables,
 }
 
-// The file breaks a rule.
-fn refuse(verdict: u32, item: u32) -> Checked
-    ensures { result ≡ refused verdict item }
-{
-    let tables = tables::empty();
-    Checked {
-        verdict,
-        item,
-        tables,
+impl From<Result<Tables, Fault>> for Checked {
+    ghost from_gives = { λ r checked. checked ≡ checked_of r };
+
+    #[tactic(auto, unfolding(crate::specs::Results::checked_of))]
+    fn from(r: Result<Tables, Fault>) -> Checked {
+        match r {
+            Ok(tables) => Checked {
+                verdict: 0,
+                item: 0,
+                tables,
+            },
+            Err(fault) => Checked {
+                verdict: fault.rule,
+                item: fault.item,
+                tables: tables::empty(),
+            },
+        }
     }
 }
 
 // The tables with the buffer's first byte, 0 without a buffer.
+#[tactic(auto, unfolding(crate::specs::Check::placed_at))]
 fn place_buffer(tables: Tables, start: usize) -> Tables
     requires { start < 4294967296 }
     ensures { result ≡ placed_at start tables }
 {
-    let mut t = tables;
-    t.buffer_start = 0;
-    if t.buffers != 0 {
-        t.buffer_start = start as u32;
-    }
-    t
-}
-
-// Rules 9 to 47 of a file whose chunks lie as c says and whose JSON chunk says d.
-fn check_document(file: &[u8], c: Container, d: Document) -> Checked
-    requires bin_start_bound { c.bin_start < 4294967296 }
-    requires item_bound { d.graph.item < 4294967296 }
-    ensures { result ≡ check_document file.now c d }
-{
-    if d.number != 0 {
-        return refuse(d.number, 0);
-    }
-    let said = d.tables;
-    let t = place_buffer(said, c.bin_start);
-    let placed = d.placed;
-    let graph = d.graph;
-    let found = late_rule(file, c, t, placed, graph);
-    if found.rule != 0 {
-        return refuse(found.rule, found.item);
-    }
-    Checked {
-        verdict: 0,
-        item: 0,
-        tables: t,
-    }
+    let mut placed = tables;
+    placed.buffer_start = if tables.buffers != 0 { start as u32 } else { 0 };
+    placed
 }
 
 // Rules 1 to 47 in their order.
-pub fn check(file: &[u8]) -> Checked
-    ensures { result ≡ check_of file.now }
+pub fn check(file: &[u8]) -> Result<Tables, Fault>
+    ensures { result ≡ outcome_of (check_of file.now) }
 {
-    let c = container::open(file);
-    if c.number != 0 {
-        return refuse(c.number, c.item);
-    }
-    let start = c.json_start;
-    let end = start + c.json_length;
-    let d = document::read(&file[start..end]);
-    check_document(file, c, d)
+    let c = container::open(file)?;
+    let end = c.json.start + c.json.length;
+    let d = document::read(&file[c.json.start..end])?;
+    let bin = c.bin.unwrap_or(Chunk {
+        start: 0,
+        length: 0,
+    });
+    let tables = place_buffer(d.tables, bin.start);
+    late_rule(file, c, tables, d.placed, d.graph)?;
+    Ok(tables)
 }

@@ -3,6 +3,8 @@
 // length); two walks (number, count, nodes).
 #![tactic(auto)]
 
+use access::Place;
+use glb::Checked;
 use std::io;
 use std::io::{Read, Write};
 use tables::Tables;
@@ -14,11 +16,14 @@ const FILES: u32 = 1000;
 const LONGEST: usize = 65536;
 
 fn counts(t: Tables, out: &mut impl Write) -> io::Result<()> {
-    let buffers = t.buffers;
-    let views = t.views;
-    let accessors = t.accessors;
-    let nodes = t.nodes;
-    let scenes = t.scenes;
+    let Tables {
+        buffers,
+        views,
+        accessors,
+        nodes,
+        scenes,
+        ..
+    } = t;
     write!(out, " | {buffers} {views} {accessors} {nodes} {scenes}")
 }
 
@@ -30,18 +35,17 @@ fn component(
     place: u32,
     out: &mut impl Write,
 ) -> io::Result<()> {
-    let reading = access::component(file, t, accessor, element, place);
-    let number = reading.number;
-    let value = reading.value;
-    write!(out, " | {number} {value}")
+    match access::component(file, t, accessor, element, place) {
+        Ok(value) => write!(out, " | 0 {value}"),
+        Err(refusal) => write!(out, " | {} 0", refusal.number()),
+    }
 }
 
 fn view(file: &[u8], t: Tables, view: u32, out: &mut impl Write) -> io::Result<()> {
-    let number = access::view_number(file, t, view);
-    let place = access::view_place(file, t, view);
-    let start = place.start;
-    let length = place.length;
-    write!(out, " | {number} {start} {length}")
+    match access::view_place(file, t, view) {
+        Ok(Place { start, length }) => write!(out, " | 0 {start} {length}"),
+        Err(refusal) => write!(out, " | {} 0 0", refusal.number()),
+    }
 }
 
 // The first so many entries of a list, or all of them.
@@ -53,18 +57,21 @@ fn entries(list: &[u16], count: usize, out: &mut impl Write) -> io::Result<()> {
 }
 
 fn walk(t: Tables, scene: u32, list: &mut [u16], out: &mut impl Write) -> io::Result<()> {
-    let walked = scene::walk(t, scene, list);
-    let number = walked.number;
-    let count = walked.count;
-    write!(out, " | {number} {count}")?;
-    entries(list, count, out)
+    match scene::walk(t, scene, list) {
+        Ok(count) => {
+            write!(out, " | 0 {count}")?;
+            entries(list, count, out)
+        }
+        Err(refusal) => write!(out, " | {} 0", refusal.number()),
+    }
 }
 
 fn report(file: &[u8], out: &mut impl Write) -> io::Result<()> {
-    let checked = glb::check(file);
-    let verdict = checked.verdict;
-    let item = checked.item;
-    let t = checked.tables;
+    let Checked {
+        verdict,
+        item,
+        tables: t,
+    } = Checked::from(glb::check(file));
     write!(out, "{verdict} {item}")?;
     counts(t, out)?;
     component(file, t, 0, 0, 0, out)?;
@@ -82,18 +89,13 @@ fn report(file: &[u8], out: &mut impl Write) -> io::Result<()> {
     writeln!(out)
 }
 
-// The number of four bytes, little-endian.
-fn four(a: u8, b: u8, c: u8, d: u8) -> usize {
-    (a as usize) + 256 * (b as usize) + 65536 * (c as usize) + 16777216 * (d as usize)
-}
-
 // The next file's length, where there is a file.
 fn next_length(input: &mut impl Read) -> io::Result<Option<usize>> {
     let mut head = [0u8; 4];
     if input::read_full(input, &mut head)? < 4 {
         return Ok(None);
     }
-    Ok(Some(four(head[0], head[1], head[2], head[3])))
+    Ok(Some(u32::from_le_bytes(head) as usize))
 }
 
 // Reports the next file; whether there was one and it fitted the buffer.

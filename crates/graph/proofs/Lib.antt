@@ -5,6 +5,7 @@ pub mod Reach
 pub mod Tests
 pub mod Verdicts
 pub mod Feeding
+pub mod Searches
 pub mod Standing
 pub mod Marking
 pub mod Streams
@@ -15,3 +16,4 @@ pub mod Rank
 pub mod Levels
 pub mod Walks
 pub mod Exact
+pub mod Answered

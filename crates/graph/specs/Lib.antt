@@ -3,3 +3,4 @@ pub mod Rules
 pub mod Stream
 pub mod Packing
 pub mod Order
+pub mod Results

@@ -6,29 +6,23 @@ ghost use Rattle.graph.specs.Stream.{earlier};
 pub fn fill(list: &mut [u16], v: u16)
     ensures { list.new ≡ replicate (length list.old) v }
 {
-    let mut i: usize = 0;
-    while i < list.len() {
-        list[i] = v;
-        i += 1;
-    }
+    list.fill(v);
 }
 
 // The number i where the test holds and i is the smaller, else what was found before.
+#[tactic(auto, unfolding(crate::specs::Stream::earlier))]
 pub fn earlier_of(test: bool, i: u16, found: u16) -> u16
     ensures { result ≡ earlier test i found }
 {
-    if test & (i < found) {
-        return i;
-    }
-    found
+    if test { found.min(i) } else { found }
 }
 
 // Entry x, and another number past the end.
 pub fn entry(list: &[u16], x: usize, other: usize) -> usize
     ensures { result ≡ get_or list.now x other }
 {
-    if x < list.len() {
-        return list[x] as usize;
+    match list.get(x) {
+        Some(entry) => *entry as usize,
+        None => other,
     }
-    other
 }

@@ -1,114 +1,101 @@
 // Rule 43, and the smallest rule broken.
-ghost use Rattle.std.specs.Prelude.{◌≡◌};
-ghost use Rattle.graph.specs.Stream.{endless_in, first_twice, first_endless, roots_verdict, verdict_of};
+ghost use Rattle.std.specs.Prelude.{◌≡◌, ◌==◌, length, position};
+ghost use Rattle.graph.specs.Stream.{endless_in, first_endless, roots_verdict, verdict_of};
+ghost use Rattle.graph.specs.Results.{item_below, outcome_of};
 
 use crate::lists::entry;
 use crate::roots::Roots;
 
-// A rule's number and the smallest item that breaks it; 0 and 0 where no rule is broken.
-#[derive(Clone, Copy)]
+// A rule's number and the smallest item that breaks it.
+// Stays: a number, since `graph_fault`, the theorems on it and glb's rule table have the rules by their numbers.
+#[derive(Clone, Copy, Debug, PartialEq, Eq)]
 pub struct Fault {
     pub number: u32,
     pub item: usize,
 }
 
-// The smallest child met twice, the number of nodes if none.
-fn first_twice(parents: &[u16]) -> usize
-    ensures { result ≡ first_twice parents.now }
+// The smallest child met twice.
+fn first_twice(parents: &[u16]) -> Option<usize>
+    ensures { result ≡ position (λ x. x == 65535) parents.now }
 {
-    let mut x: usize = 0;
-    while x < parents.len() {
-        if parents[x] == 65535 {
-            return x;
-        }
-        x += 1;
-    }
-    x
+    parents.iter().position(|parent| *parent == 65535)
 }
 
 // Whether the way up from x does not end in as many steps as there are nodes.
+#[tactic(auto, unfolding(crate::specs::Stream::endless_in))]
 fn is_endless(parents: &[u16], x: usize) -> bool
     ensures { result ≡ endless_in parents.now x }
 {
     let n = parents.len();
     let mut at = x;
-    let mut k: usize = 0;
-    while k < n {
+    for _ in 0..n {
         if n <= at {
             return false;
         }
         at = entry(parents, at, n);
-        k += 1;
     }
     at < n
 }
 
-// The smallest node from which the way up does not end, the number of nodes if none.
-fn first_endless(parents: &[u16]) -> usize
-    ensures { result ≡ first_endless parents.now }
+// The smallest node from which the way up does not end.
+fn first_endless(parents: &[u16]) -> Option<usize>
+    ensures { result ≡ item_below (length parents.now) (first_endless parents.now) }
 {
-    let mut x: usize = 0;
-    while x < parents.len() {
+    for x in 0..parents.len() {
         if is_endless(parents, x) {
-            return x;
+            return Some(x);
         }
-        x += 1;
     }
-    x
+    None
 }
 
 // The smallest of rules 44 to 46 that is broken, after all roots.
-fn roots_verdict(scenes: u16, found: Roots) -> Fault
-    ensures { result ≡ roots_verdict scenes found }
+#[tactic(auto, unfolding(crate::specs::Stream::roots_verdict, crate::specs::Results::outcome_of))]
+fn roots_verdict(scenes: u16, found: Roots) -> Result<(), Fault>
+    ensures { result ≡ outcome_of (roots_verdict scenes found) }
 {
-    let past = found.past;
-    let twice = found.twice;
-    let parented = found.parented;
+    let Roots {
+        past,
+        twice,
+        parented,
+    } = found;
     if past < scenes {
-        return Fault {
+        return Err(Fault {
             number: 44,
             item: past as usize,
-        };
+        });
     }
     if twice < scenes {
-        return Fault {
+        return Err(Fault {
             number: 45,
             item: twice as usize,
-        };
+        });
     }
     if parented < scenes {
-        return Fault {
+        return Err(Fault {
             number: 46,
             item: parented as usize,
-        };
+        });
     }
-    Fault { number: 0, item: 0 }
+    Ok(())
 }
 
 // The smallest rule broken, after all children and all roots.
-pub fn verdict(past: u16, parents: &[u16], scenes: u16, found: Roots) -> Fault
-    ensures { result ≡ verdict_of past parents.now scenes found }
+#[tactic(auto, unfolding(crate::specs::Stream::verdict_of, crate::specs::Results::outcome_of, crate::specs::Results::item_below))]
+pub fn verdict(past: u16, parents: &[u16], scenes: u16, found: Roots) -> Result<(), Fault>
+    ensures { result ≡ outcome_of (verdict_of past parents.now scenes found) }
 {
-    let n = parents.len();
-    if (past as usize) < n {
-        return Fault {
+    if (past as usize) < parents.len() {
+        return Err(Fault {
             number: 41,
             item: past as usize,
-        };
+        });
     }
-    let twice = first_twice(parents);
-    if twice < n {
-        return Fault {
-            number: 42,
-            item: twice,
-        };
+    if let Some(item) = first_twice(parents) {
+        return Err(Fault { number: 42, item });
     }
-    let endless = first_endless(parents);
-    if endless < n {
-        return Fault {
-            number: 43,
-            item: endless,
-        };
+    if let Some(item) = first_endless(parents) {
+        return Err(Fault { number: 43, item });
     }
     roots_verdict(scenes, found)
 }

@@ -16,6 +16,8 @@ pub fn read_full<I: Read>(input: &mut I, buffer: &mut [u8]) -> io::Result<usize>
     ensures err { OnErr result ((n : ℕ) × (n ≤ length buffer.new)
         × Consumes (I.remaining input.old) (I.remaining input.new) (take n buffer.new)) }
 {
+    // Stays: no index is counted, the loop goes by what came, and of `read_exact` and `read_to_end` no clause says what was
+    // read before an error.
     let mut n = 0;
     while n < buffer.len() {
         let more = input.read(&mut buffer[n..])?;

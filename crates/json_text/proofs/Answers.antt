@@ -9,8 +9,9 @@ use mathlib.Core.List.{List, [], ◌∷◌}
 use borrow.Author.Tests.{ne_eqb}
 use lib.Dec.{eqb}
 use lib.ListN.{length, drop, length-drop}
-use Rattle.json_text.specs.declared.answer.Scan.{Scan}
-use Rattle.json_text.specs.declared.answer.Scan.TheVariants.{Past, Broke, Deep}
+use Rattle.std.proofs.Common.{Result, Ok, Err}
+use Rattle.json_text.specs.declared.error.ScanError.{ScanError}
+use Rattle.json_text.specs.declared.error.ScanError.TheVariants.{Broke, Deep}
 use Rattle.json_text.specs.Grammar.{IsWs, Ws}
 use Rattle.json_text.specs.Faults.{Not, Is, NoText}
 use Rattle.json_text.specs.Faults.Fault.{broke, deep}
@@ -34,16 +35,16 @@ pub apart : broke ≡ deep → ⊥
 apart e = let z : ◌≡◌ {A = ℕ} 0 1 = cc in omega arith
 
 -- the scan of a text and the parser agree
-pub agree : {n : ℕ} {s : List ℕ} {o : Scan} → TextSaid s n o → (g : Got (TextOk n s) (NoText n s)) → o ≡ answer s g
-agree {s = s} (says_past {p = p} l k) (got r m) = ap Past (omega (arith, position s [] p l k.3))
+pub agree : {n : ℕ} {s : List ℕ} {o : Result ℕ ScanError} → TextSaid s n o → (g : Got (TextOk n s) (NoText n s)) → o ≡ answer s g
+agree {s = s} (says_past {p = p} l k) (got r m) = ap Ok (omega (arith, position s [] p l k.3))
 agree (says_past l k) (lost broke r m) = absurd (broke_none m k.1)
 agree (says_past l k) (lost deep r m) = absurd (lt_irrefl _ (lt_of_lt_of_le (deep_deeper m k.1) k.2))
 agree (says_broke l k) (got r m) = absurd (broke_none k m.1)
-agree {s = s} (says_broke {p = p} l k) (lost broke r m) = ap Broke (position s r p l (text_same k m).place)
+agree {s = s} (says_broke {p = p} l k) (lost broke r m) = ap Err (ap Broke (position s r p l (text_same k m).place))
 agree (says_broke l k) (lost deep r m) = absurd (apart (text_same k m).kind)
 agree (says_deep l k) (got r m) = absurd (lt_irrefl _ (lt_of_lt_of_le (deep_deeper k m.1) m.2))
 agree (says_deep l k) (lost broke r m) = absurd (apart (sym (text_same k m).kind))
-agree {s = s} (says_deep {p = p} l k) (lost deep r m) = ap Deep (position s r p l (text_same k m).place)
+agree {s = s} (says_deep {p = p} l k) (lost deep r m) = ap Err (ap Deep (position s r p l (text_same k m).place))
 
 -- what follows the white space
 pub past : {w v : List ℕ} → Ws w v → Not IsWs v → past_ws w ≡ v
@@ -67,6 +68,6 @@ not_brace (not_head {b = b} f) = ne_eqb b 0x7b (λ e. f (rw e is))
 
 -- another byte comes first, or none
 pub scan_other : (n : ℕ) {s v : List ℕ} → Ws s v → Not IsWs v → Not (Is 0x7b) v →
-    scan_of n s ≡ Broke (length s - length v)
+    scan_of n s ≡ Err (Broke (length s - length v))
 unfolding scan_of
 scan_other n x q f = rw (past x q, not_brace f)

@@ -8,10 +8,10 @@ use mathlib.Core.List.{List, ◌∷◌, ◌++◌, append_assoc}
 use lib.ListN.{length, take, drop, take-append-drop}
 use lib.Seq.{take-take}
 use native.Mathlib.Decide.{dec_lt}
-use Rattle.json_text.specs.declared.Nesting.{Nesting}
-use Rattle.json_text.specs.declared.Nesting.TheVariants.{Within, Passes}
-use Rattle.json_text.specs.declared.answer.Scan.{Scan}
-use Rattle.json_text.specs.declared.answer.Scan.TheVariants.{Past, Broke, Deep}
+use Rattle.std.specs.Prelude.{⊤, Result, Ok, Err}
+use Rattle.json_text.specs.declared.error.TooDeep.{TooDeep}
+use Rattle.json_text.specs.declared.error.ScanError.{ScanError}
+use Rattle.json_text.specs.declared.error.ScanError.TheVariants.{Broke, Deep}
 use Rattle.json_text.specs.Tree.{Json, Fields, depth}
 use Rattle.json_text.specs.Grammar.{IsWs, Ws, Text}
 use Rattle.json_text.specs.Faults.{Not, Is, NoText}
@@ -33,7 +33,7 @@ use Rattle.json_text.proofs.Tops.{top_object, in_object, no_object, longest, pla
 use Rattle.json_text.proofs.Answers.{scan_brace, scan_other}
 
 -- the scan finds no level left where the count passes
-deep_at : (n : ℕ) (s r : List ℕ) → NoText n s deep r → depth_of n s ≡ Passes (length s - length r)
+deep_at : (n : ℕ) (s r : List ℕ) → NoText n s deep r → depth_of n s ≡ Err (record { place = length s - length r })
 deep_at n s r k = let d = deep_place k in sym (passes n s (length s - length r) (omega arith) (omega arith))
 
 -- { comes first
@@ -48,7 +48,7 @@ braced {s = s} x (lost broke r k) =
 braced {n = n} {s = s} x (lost deep r k) = checked_deep (deep_at n s r k) (λ ms y. deep_deeper k y)
 
 -- another byte comes first, or none
-other : {n : ℕ} {s v : List ℕ} → Ws s v → Not IsWs v → Not (Is 0x7b) v → Checked s n (Broke (length s - length v))
+other : {n : ℕ} {s v : List ℕ} → Ws s v → Not IsWs v → Not (Is 0x7b) v → Checked s n (Err (Broke (length s - length v)))
 other {s = s} {v = v} x q f =
     let i = no_object x q f in
     let p = place s v i.cut in
@@ -64,17 +64,17 @@ checked n s =
     ]
 
 -- a count that passes n has a peak above n
-passes_over : {n p : ℕ} {s : List ℕ} {o : Nesting} → Counted s n o → o ≡ Passes p → n < peak outside 0 s
+passes_over : {n p : ℕ} {s : List ℕ} {o : Result ⊤ TooDeep} → Counted s n o → o ≡ Err (record { place = p }) → n < peak outside 0 s
 passes_over (counted_within l) e = absurd (let z : ◌≡◌ {A = ℕ} 0 1 = cc in omega arith)
 passes_over {s = s} (counted_passes {p = q} l a b) e = omega (arith, b, part outside 0 (q + 1) s)
 
 -- within, from the peak
-pub low_within : {n : ℕ} {s : List ℕ} {o : Nesting} → Counted s n o → peak outside 0 s ≤ n → o ≡ Within
+pub low_within : {n : ℕ} {s : List ℕ} {o : Result ⊤ TooDeep} → Counted s n o → peak outside 0 s ≤ n → o ≡ Ok tt
 low_within (counted_within l) h = refl
 low_within {s = s} (counted_passes {p = q} l a b) h = absurd (omega (arith, b, part outside 0 (q + 1) s))
 
 -- the peak, from within
-pub within_low : {n : ℕ} {s : List ℕ} {o : Nesting} → Counted s n o → o ≡ Within → peak outside 0 s ≤ n
+pub within_low : {n : ℕ} {s : List ℕ} {o : Result ⊤ TooDeep} → Counted s n o → o ≡ Ok tt → peak outside 0 s ≤ n
 within_low (counted_within l) e = l
 within_low (counted_passes l a b) e = absurd (let z : ◌≡◌ {A = ℕ} 0 1 = cc in omega arith)
 
@@ -92,21 +92,21 @@ low_depth {s = s} {j = j} n x l = go (text_run n s)
     go (lost deep r k) = absurd (omega (arith, passes_over (counted n s) (deep_at n s r k)))
 
 -- the scan is past a text with an object
-pub past_says : {n p : ℕ} {s : List ℕ} {o : Scan} → Checked s n o → o ≡ Past p →
+pub past_says : {n p : ℕ} {s : List ℕ} {o : Result ℕ ScanError} → Checked s n o → o ≡ Ok p →
     (p ≡ length s) × (ms : Fields) × Text s (Json.object ms) × (depth (Json.object ms) ≤ n)
 past_says (checked_past x l) e = (cc, _, x, l)
 past_says (checked_broke h) e = absurd (let z : ◌≡◌ {A = ℕ} 0 1 = cc in omega arith)
 past_says (checked_deep h k) e = absurd (let z : ◌≡◌ {A = ℕ} 0 1 = cc in omega arith)
 
 -- and past each such text of at most n levels
-pub says_past : {n : ℕ} {s : List ℕ} {ms : Fields} {o : Scan} → Checked s n o → Text s (Json.object ms) →
-    depth (Json.object ms) ≤ n → o ≡ Past (length s)
+pub says_past : {n : ℕ} {s : List ℕ} {ms : Fields} {o : Result ℕ ScanError} → Checked s n o → Text s (Json.object ms) →
+    depth (Json.object ms) ≤ n → o ≡ Ok (length s)
 says_past (checked_past x l) y m = refl
 says_past (checked_broke h) y m = absurd (h.none _ y)
 says_past (checked_deep h k) y m = absurd (lt_irrefl _ (lt_of_lt_of_le (k _ y) m))
 
 -- no level is missing where the count stays within n
-pub no_deep : {n p : ℕ} {s : List ℕ} {o : Scan} → Checked s n o → depth_of n s ≡ Within → o ≡ Deep p → ⊥
+pub no_deep : {n p : ℕ} {s : List ℕ} {o : Result ℕ ScanError} → Checked s n o → depth_of n s ≡ Ok tt → o ≡ Err (Deep p) → ⊥
 no_deep (checked_past x l) w e = let z : ◌≡◌ {A = ℕ} 0 1 = cc in omega arith
 no_deep (checked_broke h) w e = let z : ◌≡◌ {A = ℕ} 0 1 = cc in omega arith
 no_deep (checked_deep h k) w e = let z : ◌≡◌ {A = ℕ} 0 1 = cc in omega arith
@@ -131,11 +131,11 @@ one_longest s p q x y =
     ]
 
 -- where rule 10 holds there is one right answer
-pub one_answer : {n : ℕ} {s : List ℕ} {o u : Scan} → depth_of n s ≡ Within → Checked s n o → Checked s n u → o ≡ u
+pub one_answer : {n : ℕ} {s : List ℕ} {o u : Result ℕ ScanError} → depth_of n s ≡ Ok tt → Checked s n o → Checked s n u → o ≡ u
 one_answer w (checked_past x l) (checked_past y m) = refl
 one_answer w (checked_past x l) (checked_broke y) = absurd (y.none _ x)
 one_answer w (checked_past x l) (checked_deep d y) = absurd (let z : ◌≡◌ {A = ℕ} 0 1 = cc in omega arith)
 one_answer w (checked_broke x) (checked_past y m) = absurd (x.none _ y)
-one_answer {s = s} w (checked_broke {p = p} x) (checked_broke {p = q} y) = ap Broke (one_longest s p q x y)
+one_answer {s = s} w (checked_broke {p = p} x) (checked_broke {p = q} y) = ap Err (ap Broke (one_longest s p q x y))
 one_answer w (checked_broke x) (checked_deep d y) = absurd (let z : ◌≡◌ {A = ℕ} 0 1 = cc in omega arith)
 one_answer w (checked_deep d x) u = absurd (let z : ◌≡◌ {A = ℕ} 0 1 = cc in omega arith)

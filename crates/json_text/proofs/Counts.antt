@@ -4,18 +4,19 @@ use Prim.Native.Nat.{ℕ, zero, suc, ◌+◌, ◌-◌, ◌≤◌, ◌<◌}
 use native.Mathlib.Omega.{arith}
 use native.Mathlib.Numerals.{add-one, sub-one}
 use mathlib.Core.Path.{◌≡◌, refl}
-use mathlib.Core.Bool.{Bool, true, false, ◌&&◌, ◌||◌}
+use mathlib.Core.Bool.{Bool, true, false, ◌||◌}
 use mathlib.Core.List.{List, [], ◌∷◌}
 use mathlib.Core.Logic.{⊎_elim}
+use native.Mathlib.Decide.{dec_lt}
 use borrow.Author.Tests.{eqb-true, le-ltb, lt-ltb, ltb-true, ltb-false}
 use lib.Dec.{eqb, ltb}
 use lib.ListN.{length, drop, take, get_or, length-drop}
 use lib.Seq.{drop-drop, take_all}
+use Rattle.std.proofs.Common.{Ok, Err}
 use Rattle.json_text.specs.Depth.{Mode, kind, turn, move, peak, to_pass, depth_of}
 use Rattle.json_text.specs.Depth.Mode.{outside, inside, hidden}
 use Rattle.json_text.specs.Depth.Kind.{slash, code}
 use Rattle.json_text.specs.Depth.Bracket.{neither}
-use Rattle.json_text.specs.declared.Nesting.TheVariants.{Within, Passes}
 use Rattle.json_text.specs.Strings.{to_close}
 use Rattle.json_text.specs.Check.{Counted}
 use Rattle.json_text.specs.Check.Counted.{counted_within, counted_passes}
@@ -113,22 +114,61 @@ module _ (n d : ℕ) (s : List ℕ) (i : ℕ) (l : i < length s) (m : d ≤ n) w
       ⊎_elim (λ (k : kind (get_or s i 0) ≡ slash). rw (split s i l, k, le-ltb n d m))
       (λ (k : kind (get_or s i 0) ≡ code neither). rw (split s i l, k, le-ltb n d m)) (kind_other (get_or s i 0) f e g)
 
-  -- the same, or a bracket that closes at depth 0
-  pub rest_turn : (get_or s i 0 ≡ 0x22 → ⊥) → (eqb (get_or s i 0) 0x5b || eqb (get_or s i 0) 0x7b) ≡ false →
-      ((eqb (get_or s i 0) 0x5d || eqb (get_or s i 0) 0x7d) && ltb 0 d) ≡ false →
-      to_pass n outside d (drop i s) ≡ suc (to_pass n outside d (drop (i + 1) s))
-  rest_turn f e g =
-      by_test (eqb (get_or s i 0) 0x5d || eqb (get_or s i 0) 0x7d)
-      (λ h. let z : d ≤ 0 = ltb-false 0 d (rw h at g) in let y : d - 1 ≡ d = omega arith in rw y at (close_turn h))
-      (λ h. other_turn f e h)
+-- so far the count never passed n, and it is d at i; or a string that nothing closes was skipped
+abbrev pub SoFar : ℕ → List ℕ → ℕ → ℕ → Type 0
+SoFar n s i d =
+    (i ≤ length s + 1) × (d ≤ n) × (i ≤ length s → to_pass n outside 0 s ≡ i + to_pass n outside d (drop i s)) ×
+    (length s < i → length s ≤ to_pass n outside 0 s)
+
+module _ (n d : ℕ) (s : List ℕ) (i : ℕ) (l : i < length s) (h : SoFar n s i d) where
+  -- over one byte
+  step : (k : ℕ) → k ≤ n → to_pass n outside d (drop i s) ≡ suc (to_pass n outside k (drop (i + 1) s)) →
+      SoFar n s (i + 1) k
+  step k m e = let p = h.2 (omega arith) in (omega arith, m, λ x. omega (arith, e, p), λ x. absurd (omega arith))
+
+  -- over a string
+  pub over_string : (e : ℕ) → get_or s i 0 ≡ 0x22 → e ≡ i + 1 + to_close false (drop (i + 1) s) → SoFar n s (e + 1) d
+  over_string e b k =
+      let p = h.2 (omega arith) in (
+        omega (arith, close_le false (drop (i + 1) s), length-drop (i + 1) s),
+        h.1,
+        λ x. omega (arith, p, string_turn n d s i l h.1 e b k (omega arith)),
+        λ x. omega (arith, p, string_end n d s i l h.1 e b k (omega arith)),
+      )
+
+  -- over a bracket that opens
+  pub over_open : (eqb (get_or s i 0) 0x5b || eqb (get_or s i 0) 0x7b) ≡ true → (d ≡ n → ⊥) → SoFar n s (i + 1) (d + 1)
+  over_open b f =
+      step (d + 1) (omega (arith, h.1, f)) (open_turn n d s i l h.1 b (omega (arith, h.1, f)))
+
+  -- over one that closes
+  pub over_close : (eqb (get_or s i 0) 0x5d || eqb (get_or s i 0) 0x7d) ≡ true → SoFar n s (i + 1) (d - 1)
+  over_close b = step (d - 1) (omega (arith, h.1)) (close_turn n d s i l h.1 b)
+
+  -- over any other byte
+  pub over_other : (get_or s i 0 ≡ 0x22 → ⊥) → (eqb (get_or s i 0) 0x5b || eqb (get_or s i 0) 0x7b) ≡ false →
+      (eqb (get_or s i 0) 0x5d || eqb (get_or s i 0) 0x7d) ≡ false → SoFar n s (i + 1) d
+  over_other f g k = step d h.1 (other_turn n d s i l h.1 f g k)
+
+  -- at the bracket with which the count passes n
+  pub at_passing : (eqb (get_or s i 0) 0x5b || eqb (get_or s i 0) 0x7b) ≡ true → d ≡ n → to_pass n outside 0 s ≡ i
+  at_passing b e = let p = h.2 (omega arith) in omega (arith, p, open_stop n d s i l h.1 b e)
+
+-- at the end
+pub at_end : (n d : ℕ) (s : List ℕ) (i : ℕ) → length s ≤ i → SoFar n s i d → length s ≤ to_pass n outside 0 s
+at_end n d s i l h =
+    elim (dec_lt (length s) i) [
+      | yes g ↦ h.3 g
+      | no f ↦ let p = h.2 (omega arith) in omega (arith, p)
+    ]
 
 -- the answers
-pub within : (n : ℕ) (s : List ℕ) → length s ≤ to_pass n outside 0 s → Within ≡ depth_of n s
+pub within : (n : ℕ) (s : List ℕ) → length s ≤ to_pass n outside 0 s → Ok tt ≡ depth_of n s
 unfolding depth_of
 within n s l = rw (le-ltb (to_pass n outside 0 s) (length s) l)
 
 -- the count passes n at i
-pub passes : (n : ℕ) (s : List ℕ) (i : ℕ) → i < length s → to_pass n outside 0 s ≡ i → Passes i ≡ depth_of n s
+pub passes : (n : ℕ) (s : List ℕ) (i : ℕ) → i < length s → to_pass n outside 0 s ≡ i → Err (record { place = i }) ≡ depth_of n s
 unfolding depth_of
 passes n s i l e = rw (e, lt-ltb i (length s) l)
 

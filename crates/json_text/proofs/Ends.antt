@@ -4,8 +4,9 @@ use Prim.Native.Nat.{ℕ, ◌≤◌}
 use mathlib.Core.Path.{◌≡◌, sym, ap}
 use mathlib.Core.List.{List}
 use lib.ListN.{length, drop}
-use Rattle.json_text.specs.declared.answer.Scan.{Scan}
-use Rattle.json_text.specs.declared.answer.Scan.TheVariants.{Past, Broke, Deep}
+use Rattle.std.proofs.Common.{Result, Ok, Err}
+use Rattle.json_text.specs.declared.error.ScanError.{ScanError}
+use Rattle.json_text.specs.declared.error.ScanError.TheVariants.{Broke, Deep}
 use Rattle.json_text.specs.Grammar.{IsWs, Ws}
 use Rattle.json_text.specs.Faults.{Fault, Not, SomeTo}
 use Rattle.json_text.specs.Faults.Fault.{broke, deep}
@@ -24,24 +25,24 @@ use Rattle.json_text.proofs.Breaks.{lit_breaks, some_breaks, name_breaks, value_
 use Rattle.json_text.proofs.Tops.{place}
 use Rattle.json_text.proofs.Answers.{position, apart, past_says}
 
-module _ {s : List ℕ} {Ok : List ℕ → Type 0} {No : Fault → List ℕ → Type 0} where
+module _ {s : List ℕ} {Yes : List ℕ → Type 0} {No : Fault → List ℕ → Type 0} where
   -- a scan and a reading agree, where each says one thing only
-  agree_end : ((r q : List ℕ) → Ok r → Ok q → r ≡ q) → ((f : Fault) (r q : List ℕ) → Ok r → No f q → ⊥) →
-      ((f g : Fault) (r q : List ℕ) → No f r → No g q → Same f g r q) → {o : Scan} → Says s Ok No o →
-      (g : Got Ok No) → o ≡ end_of s g
-  agree_end u x y (says_past {p = p} l k) (got r m) = ap Past (position s r p l (u _ _ k m))
+  agree_end : ((r q : List ℕ) → Yes r → Yes q → r ≡ q) → ((f : Fault) (r q : List ℕ) → Yes r → No f q → ⊥) →
+      ((f g : Fault) (r q : List ℕ) → No f r → No g q → Same f g r q) → {o : Result ℕ ScanError} → Says s Yes No o →
+      (g : Got Yes No) → o ≡ end_of s g
+  agree_end u x y (says_past {p = p} l k) (got r m) = ap Ok (position s r p l (u _ _ k m))
   agree_end u x y (says_past l k) (lost broke r m) = absurd (x _ _ _ k m)
   agree_end u x y (says_past l k) (lost deep r m) = absurd (x _ _ _ k m)
   agree_end u x y (says_broke l k) (got r m) = absurd (x _ _ _ m k)
-  agree_end u x y (says_broke {p = p} l k) (lost broke r m) = ap Broke (position s r p l (y _ _ _ _ k m).place)
+  agree_end u x y (says_broke {p = p} l k) (lost broke r m) = ap Err (ap Broke (position s r p l (y _ _ _ _ k m).place))
   agree_end u x y (says_broke l k) (lost deep r m) = absurd (apart (y _ _ _ _ k m).kind)
   agree_end u x y (says_deep l k) (got r m) = absurd (x _ _ _ m k)
   agree_end u x y (says_deep l k) (lost broke r m) = absurd (apart (sym (y _ _ _ _ k m).kind))
-  agree_end u x y (says_deep {p = p} l k) (lost deep r m) = ap Deep (position s r p l (y _ _ _ _ k m).place)
+  agree_end u x y (says_deep {p = p} l k) (lost deep r m) = ap Err (ap Deep (position s r p l (y _ _ _ _ k m).place))
 
   -- a reading says where it ends, where that is a last part of s
-  end_says : ((r : List ℕ) → Ok r → Cut s r) → ((f : Fault) (r : List ℕ) → No f r → Cut s r) → (g : Got Ok No) →
-      Says s Ok No (end_of s g)
+  end_says : ((r : List ℕ) → Yes r → Cut s r) → ((f : Fault) (r : List ℕ) → No f r → Cut s r) → (g : Got Yes No) →
+      Says s Yes No (end_of s g)
   end_says c d (got r k) = let p = place s r (c r k) in says_past p.0 (rw p.1 k)
   end_says c d (lost broke r k) = let p = place s r (d broke r k) in says_broke p.0 (rw p.1 k)
   end_says c d (lost deep r k) = let p = place s r (d deep r k) in says_deep p.0 (rw p.1 k)
@@ -50,7 +51,7 @@ module _ {s : List ℕ} {Ok : List ℕ → Type 0} {No : Fault → List ℕ → 
 some_cut : {w ds r : List ℕ} → SomeTo w ds r → Cut w r
 some_cut (to_some {d = d} {ds = ds} {r = r} y h n) = one d (spelled ds r (digits_spelled h))
 
-module _ (s : List ℕ) (at : ℕ) {o : Scan} where
+module _ (s : List ℕ) (at : ℕ) {o : Result ℕ ScanError} where
   -- the bytes of a word
   pub literal_is : {ks : List ℕ} → LitSaid s at ks o → o ≡ literal_of ks s (drop at s)
   unfolding literal_of

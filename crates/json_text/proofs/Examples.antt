@@ -3,8 +3,8 @@
 use mathlib.Core.Path.{◌≡◌, refl}
 use mathlib.Core.List.{[], ◌∷◌}
 use mathlib.Core.Option.{some}
-use Rattle.json_text.specs.declared.Nesting.TheVariants.{Passes}
-use Rattle.json_text.specs.declared.answer.Scan.TheVariants.{Past, Broke, Deep}
+use Rattle.std.proofs.Common.{Ok, Err}
+use Rattle.json_text.specs.declared.error.ScanError.TheVariants.{Broke, Deep}
 use Rattle.json_text.specs.Tree.{Json, Values, Fields}
 use Rattle.json_text.specs.Depth.{depth_of, to_pass}
 use Rattle.json_text.specs.Parse.{text_run, past_ws, tree_of}
@@ -34,46 +34,46 @@ unfolding tree_of
 nested = refl
 
 -- {"a":0}
-accepted : scan_of 32 (123 ∷ 34 ∷ 97 ∷ 34 ∷ 58 ∷ 48 ∷ 125 ∷ 32 ∷ []) ≡ Past 8
+accepted : scan_of 32 (123 ∷ 34 ∷ 97 ∷ 34 ∷ 58 ∷ 48 ∷ 125 ∷ 32 ∷ []) ≡ Ok 8
 unfolding scan_of text_run past_ws
 accepted = refl
 
 -- {"a":01}
-leading_zero : scan_of 32 (123 ∷ 34 ∷ 97 ∷ 34 ∷ 58 ∷ 48 ∷ 49 ∷ 125 ∷ []) ≡ Broke 6
+leading_zero : scan_of 32 (123 ∷ 34 ∷ 97 ∷ 34 ∷ 58 ∷ 48 ∷ 49 ∷ 125 ∷ []) ≡ Err (Broke 6)
 unfolding scan_of text_run past_ws
 leading_zero = refl
 
 -- {"a":1.}
-no_fraction : scan_of 32 (123 ∷ 34 ∷ 97 ∷ 34 ∷ 58 ∷ 49 ∷ 46 ∷ 125 ∷ []) ≡ Broke 7
+no_fraction : scan_of 32 (123 ∷ 34 ∷ 97 ∷ 34 ∷ 58 ∷ 49 ∷ 46 ∷ 125 ∷ []) ≡ Err (Broke 7)
 unfolding scan_of text_run past_ws
 no_fraction = refl
 
 -- {"a":0,}
-last_comma : scan_of 32 (123 ∷ 34 ∷ 97 ∷ 34 ∷ 58 ∷ 48 ∷ 44 ∷ 125 ∷ []) ≡ Broke 7
+last_comma : scan_of 32 (123 ∷ 34 ∷ 97 ∷ 34 ∷ 58 ∷ 48 ∷ 44 ∷ 125 ∷ []) ≡ Err (Broke 7)
 unfolding scan_of text_run past_ws
 last_comma = refl
 
 -- {}{}
-two_values : scan_of 32 (123 ∷ 125 ∷ 123 ∷ 125 ∷ []) ≡ Broke 2
+two_values : scan_of 32 (123 ∷ 125 ∷ 123 ∷ 125 ∷ []) ≡ Err (Broke 2)
 unfolding scan_of text_run past_ws
 two_values = refl
 
 --  []
-array : scan_of 32 (32 ∷ 91 ∷ 93 ∷ []) ≡ Broke 1
+array : scan_of 32 (32 ∷ 91 ∷ 93 ∷ []) ≡ Err (Broke 1)
 unfolding scan_of text_run past_ws
 array = refl
 
 -- {"a
-unfinished : scan_of 32 (123 ∷ 34 ∷ 97 ∷ []) ≡ Broke 3
+unfinished : scan_of 32 (123 ∷ 34 ∷ 97 ∷ []) ≡ Err (Broke 3)
 unfolding scan_of text_run past_ws
 unfinished = refl
 
 -- {"a":[]} with one level
-too_deep : scan_of 1 (123 ∷ 34 ∷ 97 ∷ 34 ∷ 58 ∷ 91 ∷ 93 ∷ 125 ∷ []) ≡ Deep 5
+too_deep : scan_of 1 (123 ∷ 34 ∷ 97 ∷ 34 ∷ 58 ∷ 91 ∷ 93 ∷ 125 ∷ []) ≡ Err (Deep 5)
 unfolding scan_of text_run past_ws
 too_deep = refl
 
 -- ["]",[ with one level
-hidden_bracket : depth_of 1 (91 ∷ 34 ∷ 93 ∷ 34 ∷ 44 ∷ 91 ∷ []) ≡ Passes 5
+hidden_bracket : depth_of 1 (91 ∷ 34 ∷ 93 ∷ 34 ∷ 44 ∷ 91 ∷ []) ≡ Err (record { place = 5 })
 unfolding depth_of to_pass
 hidden_bracket = refl

@@ -1,6 +1,7 @@
 -- Laws of strings over bytes, at positions of the input s.
 -- Assumes nothing.
-use Prim.Native.Nat.{ℕ, suc, ◌+◌, ◌≤◌, ◌<◌}
+use Prim.Native.Nat.{ℕ, suc, ◌+◌, ◌≤◌, ◌<◌, max}
+use native.Mathlib.Decide.{dec_lt}
 use native.Mathlib.Omega.{arith}
 use native.Mathlib.Numerals.{add-one}
 use mathlib.Core.Path.{◌≡◌, refl}
@@ -30,27 +31,34 @@ pub close_here : (s : List ℕ) (i : ℕ) → i < length s → get_or s i 0 ≡ 
 unfolding to_close
 close_here s i l e = rw (split s i l, e)
 
--- any other byte but a backslash does not
-pub close_plain : (s : List ℕ) (i : ℕ) → i < length s → (get_or s i 0 ≡ 0x22 → ⊥) → (get_or s i 0 ≡ 0x5c → ⊥) →
-    to_close false (drop i s) ≡ suc (to_close false (drop (i + 1) s))
-unfolding to_close
-close_plain s i l f g = rw (split s i l, ne_eqb (get_or s i 0) 0x22 f, ne_eqb (get_or s i 0) 0x5c g)
-
--- nor do a backslash and the byte that it hides
-pub close_hide : (s : List ℕ) (i : ℕ) → i + 1 < length s → get_or s i 0 ≡ 0x5c →
-    to_close false (drop i s) ≡ suc (suc (to_close false (drop (i + 1 + 1) s)))
-unfolding to_close
-close_hide s i l e = rw (split s i (omega arith), e, split s (i + 1) l)
-
--- a backslash that is the last byte
-pub close_last : (s : List ℕ) (i : ℕ) → i + 1 ≡ length s → get_or s i 0 ≡ 0x5c → to_close false (drop i s) ≡ 1
-unfolding to_close
-close_last s i l e = rw (split s i (omega arith), e, past s (i + 1) (omega arith))
-
 -- the end
 pub close_end : (s : List ℕ) (i : ℕ) → length s ≤ i → to_close false (drop i s) ≡ 0
 unfolding to_close
 close_end s i l = rw (past s i l)
+
+-- one byte: hidden, or no mark
+pub close_hidden : (s : List ℕ) (i : ℕ) → i < length s →
+    to_close true (drop i s) ≡ suc (to_close false (drop (i + 1) s))
+unfolding to_close
+close_hidden s i l = rw (split s i l)
+
+pub close_open : (s : List ℕ) (i : ℕ) → i < length s → (get_or s i 0 ≡ 0x22 → ⊥) →
+    to_close false (drop i s) ≡ suc (to_close (eqb (get_or s i 0) 0x5c) (drop (i + 1) s))
+unfolding to_close
+close_open s i l f = rw (split s i l, ne_eqb (get_or s i 0) 0x22 f)
+
+-- no mark up to the end
+pub close_none : (s : List ℕ) (at i : ℕ) (h : Bool) → length s ≤ i → (at ≤ length s → i ≤ length s) →
+    at + to_close false (drop at s) ≡ i + to_close h (drop i s) → max at (length s) ≡ at + to_close false (drop at s)
+unfolding to_close
+close_none s at i h l f e =
+    elim (dec_lt at (length s)) [
+      | yes g ↦ omega (arith, f (omega arith), ends)
+      | no g ↦ let k = close_end s at (omega arith) in omega (arith, k)
+    ]
+  where
+    ends : to_close h (drop i s) ≡ 0
+    ends = rw (past s i l)
 
 -- the end of a string
 pub close_le : (h : Bool) (w : List ℕ) → to_close h w ≤ length w

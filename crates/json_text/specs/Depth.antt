@@ -1,8 +1,7 @@
 -- Rule 10, the depth count: it runs over all bytes of the chunk, a JSON text or not.
 -- Assumes nothing: these are definitions.
-use Rattle.std.specs.Prelude.{ℕ, suc, pred, max, cond, List, [], ◌∷◌, eqb, ltb, length}
-use Rattle.json_text.specs.declared.Nesting.{Nesting}
-use Rattle.json_text.specs.declared.Nesting.TheVariants.{Within, Passes}
+use Rattle.std.specs.Prelude.{ℕ, suc, pred, max, cond, List, [], ◌∷◌, eqb, ltb, length, ⊤, Result, Ok, Err}
+use Rattle.json_text.specs.declared.error.TooDeep.{TooDeep}
 
 -- where a byte stands: outside strings, inside one, or in one behind a backslash that hides it
 pub data Mode : Type 0 where
@@ -61,5 +60,5 @@ to_pass n m d [] = 0
 to_pass n m d (b ∷ w) = cond (ltb n (move m (kind b) d)) 0 (suc (to_pass n (turn m (kind b)) (move m (kind b) d) w))
 
 -- the count starts at 0, outside strings: whether it passes n, and the place of the first byte with which it does
-unfoldable pub depth_of : ℕ → List ℕ → Nesting
-depth_of n s = cond (ltb (to_pass n outside 0 s) (length s)) (Passes (to_pass n outside 0 s)) Within
+unfoldable pub depth_of : ℕ → List ℕ → Result ⊤ TooDeep
+depth_of n s = cond (ltb (to_pass n outside 0 s) (length s)) (Err (record { place = to_pass n outside 0 s })) (Ok tt)

@@ -1,6 +1,7 @@
 pub mod Tree
 pub mod Grammar
 pub mod Faults
+pub mod Results
 pub mod Scans
 pub mod Check
 pub mod Depth

@@ -4,7 +4,7 @@ ghost use Rattle.json_text.specs.Scans.{Clamped};
 ghost use Rattle.json_text.specs.Parse.{past_ws};
 ghost use Rattle.json_text.specs.Answer.{place_of, literal_of, digits_of, name_of, value_of};
 
-use crate::answer::Scan;
+use crate::error::ScanError;
 use crate::number::some;
 use crate::string::name;
 use crate::token::{literal, skip_ws};
@@ -25,28 +25,28 @@ pub fn past_ws(s: &[u8], at: usize) -> usize
 }
 
 // The bytes of `word` at `at`.
-pub fn literal_at(s: &[u8], at: usize, word: &[u8]) -> Scan
+pub fn literal_at(s: &[u8], at: usize, word: &[u8]) -> Result<usize, ScanError>
     ensures { result ≡ literal_of word.now s.now (drop at s.now) }
 {
     literal(s, clamp(s, at), word)
 }
 
 // One digit or more at `at`.
-pub fn digits_at(s: &[u8], at: usize) -> Scan
+pub fn digits_at(s: &[u8], at: usize) -> Result<usize, ScanError>
     ensures { result ≡ digits_of s.now (drop at s.now) }
 {
     some(s, clamp(s, at))
 }
 
 // The name of a member at `at`, with its colon and the white space behind it.
-pub fn name_at(s: &[u8], at: usize) -> Scan
+pub fn name_at(s: &[u8], at: usize) -> Result<usize, ScanError>
     ensures { result ≡ name_of s.now (drop at s.now) }
 {
     name(s, clamp(s, at))
 }
 
 // The value at `at`, where `levels` arrays and objects may stand in one another.
-pub fn value_at(s: &[u8], at: usize, levels: usize) -> Scan
+pub fn value_at(s: &[u8], at: usize, levels: usize) -> Result<usize, ScanError>
     ensures { result ≡ value_of levels s.now (drop at s.now) }
 {
     value(s, clamp(s, at), levels)

@@ -1,16 +1,19 @@
 // What values are made of: bytes, white space, runs of digits and fixed words.
 ghost use Rattle.std.specs.Prelude.{◌≤◌, length};
+ghost use Rattle.json_text.specs.Results.{code};
 ghost use Rattle.json_text.specs.Scans.{Peeks, WsTo, DigitsTo, LitSaid};
 
-use crate::answer::Scan;
 use crate::bytes::{is_digit, is_ws};
+use crate::error::ScanError;
 
-// The byte at `at`, or 256 at the end.
-pub(crate) fn peek(s: &[u8], at: usize) -> usize
+// Stays: each scanner takes `s` and `at` and asks that `at` is at most its length. A struct of both with that as its
+// invariant is no plainer: scanners answer places, so it would be made anew at each step, by the same proof.
+// The byte at `at`, or none at the end.
+pub(crate) fn peek(s: &[u8], at: usize) -> Option<u8>
     requires { at ≤ length s.now }
-    ensures { Peeks s.now at result }
+    ensures { Peeks s.now at (code result) }
 {
-    if at < s.len() { s[at] as usize } else { 256 }
+    s.get(at).copied()
 }
 
 // The first position from `at` on that holds no white space.
@@ -18,38 +21,37 @@ pub(crate) fn skip_ws(s: &[u8], at: usize) -> usize
     requires { at ≤ length s.now }
     ensures { WsTo s.now at result }
 {
-    let mut i = at;
-    while is_ws(peek(s, i)) {
-        i += 1;
+    for i in at..s.len() {
+        if !is_ws(s[i]) {
+            return i;
+        }
     }
-    i
+    s.len()
 }
 
 // The first position from `at` on that holds no digit.
+// Stays: beside `skip_ws`, since one function over the test is longer than both: it states what a test of any kind tells.
 pub(crate) fn digits(s: &[u8], at: usize) -> usize
     requires { at ≤ length s.now }
     ensures { DigitsTo s.now at result }
 {
-    let mut i = at;
-    while is_digit(peek(s, i)) {
-        i += 1;
+    for i in at..s.len() {
+        if !is_digit(s[i]) {
+            return i;
+        }
     }
-    i
+    s.len()
 }
 
 // The bytes of `word`.
-pub(crate) fn literal(s: &[u8], at: usize, word: &[u8]) -> Scan
+pub(crate) fn literal(s: &[u8], at: usize, word: &[u8]) -> Result<usize, ScanError>
     requires { at ≤ length s.now }
     ensures { LitSaid s.now at word.now result }
 {
-    let mut i = at;
-    let mut k = 0;
-    while k < word.len() {
-        if peek(s, i) != word[k] as usize {
-            return Scan::Broke(i);
+    for (k, b) in word.iter().enumerate() {
+        if peek(s, at + k) != Some(*b) {
+            return Err(ScanError::Broke(at + k));
         }
-        i += 1;
-        k += 1;
     }
-    Scan::Past(i)
+    Ok(at + word.len())
 }

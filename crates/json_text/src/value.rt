@@ -1,172 +1,134 @@
-// Values, and the text: value, array and object call each other, and the levels left fall at each nesting.
-ghost use Rattle.std.specs.Prelude.{◌≤◌, ◌<◌, length};
-ghost use Rattle.json_text.specs.Scans.{WsTo, AfterSaid, ScalarSaid, ValueSaid, OpenSaid, MemberSaid, TextSaid};
+// Values, and the text: value, rest and item call each other, and the levels left fall at each nesting.
+ghost use Rattle.std.specs.Prelude.{◌≡◌, ◌≤◌, length};
+ghost use Rattle.json_text.specs.Scans.{WsTo, AfterSaid, OpensAt, ScalarSaid, ValueSaid, OpenSaid, ItemSaid, TextSaid, opening, closing};
 
-use crate::answer::Scan;
 use crate::bytes::is_digit;
+use crate::error::ScanError;
 use crate::number::magnitude;
 use crate::string::{chars, name};
 use crate::token::{literal, peek, skip_ws};
 
-// What follows a value in an array or an object.
+// What brackets hold: values, or values with names.
+#[derive(Clone, Copy)]
+pub(crate) enum Kind {
+    Array,
+    Object,
+}
+
+impl Kind {
+    // The bracket that ends it.
+    pub(crate) fn close(self) -> u8
+        ensures { result ≡ closing self }
+    {
+        match self {
+            Kind::Array => b']',
+            Kind::Object => b'}',
+        }
+    }
+}
+
+// What follows an item of an array or an object: the place of the next item, or the end.
 #[derive(Clone, Copy)]
 pub(crate) enum Next {
     More(usize),
     End(usize),
-    Bad(usize),
 }
 
-// What follows a value between brackets that `close` ends: the next value, the end, or neither.
-pub(crate) fn after(s: &[u8], at: usize, close: usize) -> Next
-    requires { (at ≤ length s.now) × (close < 256) }
+// What follows an item between brackets that `close` ends.
+pub(crate) fn after(s: &[u8], at: usize, close: u8) -> Result<Next, ScanError>
+    requires { at ≤ length s.now }
     ensures { AfterSaid s.now at close result }
 {
-    let q = skip_ws(s, at);
-    let b = peek(s, q);
-    if b == close {
-        let end = q + 1;
-        return Next::End(end);
+    let past = skip_ws(s, at);
+    match peek(s, past) {
+        Some(b',') => Ok(Next::More(skip_ws(s, past + 1))),
+        Some(b) if b == close => Ok(Next::End(past + 1)),
+        _ => Err(ScanError::Broke(past)),
     }
-    if b == 0x2c {
-        let next = q + 1;
-        return Next::More(skip_ws(s, next));
-    }
-    Next::Bad(q)
 }
 
 // A value that is no array and no object.
-pub(crate) fn scalar(s: &[u8], at: usize) -> Scan
+pub(crate) fn scalar(s: &[u8], at: usize) -> Result<usize, ScanError>
     requires { at ≤ length s.now }
     ensures { ScalarSaid s.now at result }
 {
-    let b = peek(s, at);
-    if b == 0x6e {
-        let next = at + 1;
-        return literal(s, next, b"ull");
+    match peek(s, at) {
+        Some(b'n') => literal(s, at + 1, b"ull"),
+        Some(b'"') => chars(s, at + 1),
+        Some(b't') => literal(s, at + 1, b"rue"),
+        Some(b'f') => literal(s, at + 1, b"alse"),
+        Some(b'-') => magnitude(s, at + 1),
+        Some(b) if is_digit(b) => magnitude(s, at),
+        _ => Err(ScanError::Broke(at)),
     }
-    if b == 0x22 {
-        let next = at + 1;
-        return chars(s, next);
+}
+
+// The array or the object that starts at `at`, if one does.
+pub(crate) fn opened(s: &[u8], at: usize) -> Option<Kind>
+    requires { at ≤ length s.now }
+    ensures { OpensAt s.now at result }
+{
+    match peek(s, at) {
+        Some(b'[') => Some(Kind::Array),
+        Some(b'{') => Some(Kind::Object),
+        _ => None,
     }
-    if b == 0x74 {
-        let next = at + 1;
-        return literal(s, next, b"rue");
-    }
-    if b == 0x66 {
-        let next = at + 1;
-        return literal(s, next, b"alse");
-    }
-    if b == 0x2d {
-        let next = at + 1;
-        return magnitude(s, next);
-    }
-    if is_digit(b) {
-        return magnitude(s, at);
-    }
-    Scan::Broke(at)
 }
 
 // A value, where `levels` arrays and objects may stand in one another.
-#[cycle(array_member_object_value)]
-pub(crate) fn value(s: &[u8], at: usize, levels: usize) -> Scan
+#[cycle(item_rest_value)]
+pub(crate) fn value(s: &[u8], at: usize, levels: usize) -> Result<usize, ScanError>
     requires { at ≤ length s.now }
     ensures { ValueSaid s.now at levels result }
 {
-    let b = peek(s, at);
-    if b == 0x5b {
-        if levels == 0 {
-            return Scan::Deep(at);
-        }
-        let inner = levels - 1;
-        let next = at + 1;
-        return array(s, next, inner);
+    match opened(s, at) {
+        Some(_) if levels == 0 => Err(ScanError::Deep(at)),
+        Some(kind) => rest(s, at + 1, kind, levels - 1),
+        None => scalar(s, at),
     }
-    if b == 0x7b {
-        if levels == 0 {
-            return Scan::Deep(at);
-        }
-        let inner = levels - 1;
-        let next = at + 1;
-        return object(s, next, inner);
-    }
-    scalar(s, at)
 }
 
-// The rest of an array, from past its opening bracket.
-#[cycle(array_member_object_value)]
-pub(crate) fn array(s: &[u8], at: usize, levels: usize) -> Scan
+// The rest of an array or an object, from past its opening bracket.
+#[cycle(item_rest_value)]
+pub(crate) fn rest(s: &[u8], at: usize, kind: Kind, levels: usize) -> Result<usize, ScanError>
     requires { at ≤ length s.now }
-    ensures { OpenSaid 0x5b s.now at levels result }
+    ensures { OpenSaid (opening kind) s.now at levels result }
 {
+    let close = kind.close();
     let mut i = skip_ws(s, at);
-    if peek(s, i) == 0x5d {
-        let end = i + 1;
-        return Scan::Past(end);
+    if peek(s, i) == Some(close) {
+        return Ok(i + 1);
     }
     loop {
-        match value(s, i, levels) {
-            Scan::Past(p) => match after(s, p, 0x5d) {
-                Next::More(q) => i = q,
-                Next::End(q) => return Scan::Past(q),
-                Next::Bad(q) => return Scan::Broke(q),
-            },
-            Scan::Broke(p) => return Scan::Broke(p),
-            Scan::Deep(p) => return Scan::Deep(p),
+        let past = item(s, i, kind, levels)?;
+        match after(s, past, close)? {
+            Next::More(next) => i = next,
+            Next::End(end) => return Ok(end),
         }
     }
 }
 
-// A member of an object: its name, a colon and its value.
-#[cycle(array_member_object_value)]
-pub(crate) fn member(s: &[u8], at: usize, levels: usize) -> Scan
+// An item: a value, in an object behind a name and a colon.
+#[cycle(item_rest_value)]
+pub(crate) fn item(s: &[u8], at: usize, kind: Kind, levels: usize) -> Result<usize, ScanError>
     requires { at ≤ length s.now }
-    ensures { MemberSaid s.now at levels result }
+    ensures { ItemSaid kind s.now at levels result }
 {
-    match name(s, at) {
-        Scan::Past(v) => value(s, v, levels),
-        Scan::Broke(p) => Scan::Broke(p),
-        Scan::Deep(p) => Scan::Deep(p),
-    }
-}
-
-// The rest of an object, from past its opening brace.
-#[cycle(array_member_object_value)]
-pub(crate) fn object(s: &[u8], at: usize, levels: usize) -> Scan
-    requires { at ≤ length s.now }
-    ensures { OpenSaid 0x7b s.now at levels result }
-{
-    let mut i = skip_ws(s, at);
-    if peek(s, i) == 0x7d {
-        let end = i + 1;
-        return Scan::Past(end);
-    }
-    loop {
-        match member(s, i, levels) {
-            Scan::Past(p) => match after(s, p, 0x7d) {
-                Next::More(q) => i = q,
-                Next::End(q) => return Scan::Past(q),
-                Next::Bad(q) => return Scan::Broke(q),
-            },
-            Scan::Broke(p) => return Scan::Broke(p),
-            Scan::Deep(p) => return Scan::Deep(p),
-        }
+    match kind {
+        Kind::Array => value(s, at, levels),
+        Kind::Object => value(s, name(s, at)?, levels),
     }
 }
 
 // A whole text, whose value starts at `start`, behind white space.
-pub(crate) fn text(s: &[u8], start: usize, levels: usize) -> Scan
+pub(crate) fn text(s: &[u8], start: usize, levels: usize) -> Result<usize, ScanError>
     requires { WsTo s.now 0 start }
     ensures { TextSaid s.now levels result }
 {
-    match value(s, start, levels) {
-        Scan::Past(p) => {
-            let q = skip_ws(s, p);
-            if q == s.len() {
-                return Scan::Past(q);
-            }
-            return Scan::Broke(q);
-        }
-        Scan::Broke(p) => return Scan::Broke(p),
-        Scan::Deep(p) => return Scan::Deep(p),
+    let past = value(s, start, levels)?;
+    let end = skip_ws(s, past);
+    if end == s.len() {
+        return Ok(end);
     }
+    Err(ScanError::Broke(end))
 }

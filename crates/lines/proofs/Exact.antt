@@ -8,10 +8,12 @@ use native.Mathlib.Omega.{arith}
 use lib.Dec.{ltb, eqb}
 use lib.ListN.{length, get_or, take, drop, get_or-append}
 use lib.Seq.{get_or_at, get_or-take, length-take-le, take_all, take-suc}
-use borrow.Author.Tests.{ltb-true, ltb-false, eqb-true, eqb-false, le-leb}
+use borrow.Author.Tests.{ltb-true, ltb-false, eqb-true, eqb-false, le-leb, lt-leb}
+use Rattle.std.specs.Prelude.{None, Some}
 use Rattle.laws.proofs.Tests.{by_test}
 use Rattle.lines.specs.Decimal.{decimal_of, value_of, Spells}
 use Rattle.lines.specs.Report.{report_of, longest, fits, count_in, written_in}
+use Rattle.lines.specs.Results.{placed_in}
 use Rattle.lines.proofs.Digits.{decimal_small, decimal_large, width_small, width_large, width_some, width_ten}
 use Rattle.lines.proofs.Texts.{length-refused, length-accepted}
 
@@ -157,3 +159,13 @@ pub room_written : (text list : List ℕ) → length text ≤ length list
     → (count_in text list ≡ length text) × (written_in text list ≡ text ++ drop (length text) list)
 unfolding fits count_in written_in
 room_written text list h = rw (le-leb (length text) (length list) h) (refl, refl)
+
+-- and its length is answered
+pub room_placed : (text list : List ℕ) → length text ≤ length list → placed_in text list ≡ Some (length text)
+unfolding fits count_in placed_in
+room_placed text list h = rw (le-leb (length text) (length list) h)
+
+-- else none of it, and the list stays
+pub none_placed : (text list : List ℕ) → length list < length text → (placed_in text list ≡ None) × (written_in text list ≡ list)
+unfolding fits placed_in written_in
+none_placed text list h = rw (lt-leb (length text) (length list) h) (refl, refl)

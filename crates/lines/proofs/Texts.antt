@@ -1,6 +1,6 @@
 -- The lines: how long they are, and how they stand in a lent list. Assumes nothing.
 use Prim.Native.Nat.{ℕ, ◌+◌, ◌≤◌, ◌<◌}
-use mathlib.Core.Path.{◌≡◌, refl, ◌∙◌}
+use mathlib.Core.Path.{◌≡◌, refl, ap, ◌∙◌}
 use mathlib.Core.Bool.{cond}
 use mathlib.Core.List.{List, [], ◌++◌, append-nil}
 use native.Mathlib.Omega.{arith}
@@ -9,8 +9,10 @@ use lib.Dec.{eqb}
 use lib.ListN.{length, length-append}
 use lib.Seq.{sets-eq}
 use borrow.Author.Tests.{le-leb, lt-leb, eq-eqb, ne_eqb}
+use Rattle.std.specs.Prelude.{None, Some}
 use Rattle.lines.specs.Decimal.{decimal_of}
 use Rattle.lines.specs.Report.{field, verdict_line, counts_line, report_of, fits, count_in, written_in, Put}
+use Rattle.lines.specs.Results.{placed_in}
 
 -- the length of a word and a number
 pub field_length : (word : List ℕ) (n : ℕ) → length (field word n) ≡ length word + length (decimal_of n)
@@ -57,13 +59,14 @@ unfolding report_of
 verdict_within v i a b c d = omega (arith, length-append (verdict_line v i) (cond (eqb v 0) (counts_line a b c d) []))
 
 -- a text that was stored from the start on
-pub written : {l text : List ℕ} {r : ℕ} {m : List ℕ} → length text ≤ length l → Put l 0 text r m → (r ≡ count_in text l) × (m ≡ written_in text l)
-unfolding fits count_in written_in
+pub written : {l text : List ℕ} {r : ℕ} {m : List ℕ} → length text ≤ length l → Put l 0 text r m
+    → (Some r ≡ placed_in text l) × (m ≡ written_in text l)
+unfolding fits count_in placed_in written_in
 written {l} {text} {r} {m} h p =
     rw (le-leb (length text) (length l) h)
-    (p.ends ∙ zero-add (length text), p.stored ∙ sets-eq text l 0 (omega arith) ∙ rw (zero-add (length text)))
+    (ap Some (p.ends ∙ zero-add (length text)), p.stored ∙ sets-eq text l 0 (omega arith) ∙ rw (zero-add (length text)))
 
 -- a text that has no room
-pub unwritten : (text l : List ℕ) → length l < length text → (0 ≡ count_in text l) × (l ≡ written_in text l)
-unfolding fits count_in written_in
+pub unwritten : (text l : List ℕ) → length l < length text → (None ≡ placed_in text l) × (l ≡ written_in text l)
+unfolding fits count_in placed_in written_in
 unwritten text l h = rw (lt-leb (length text) (length l) h) (refl, refl)

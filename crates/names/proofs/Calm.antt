@@ -10,8 +10,8 @@ use Rattle.json_text.specs.Depth.{Mode, Kind, Bracket, kind}
 use Rattle.json_text.specs.Depth.Mode.{outside, inside, hidden}
 use Rattle.json_text.specs.Depth.Kind.{mark, slash, code}
 use Rattle.json_text.specs.Depth.Bracket.{opens, closes, neither}
-use Rattle.names.specs.declared.Escaped.TheVariants.{Plain}
 use Rattle.json_text.specs.Strings.{to_close}
+use Rattle.std.specs.Prelude.{None}
 use Rattle.names.specs.Strings.{slashed}
 use Rattle.names.specs.Order.{Names}
 use Rattle.names.specs.Names.{plan12, State, bracketed, outside_step, step, run, answer, escaped_by, escaped_of}
@@ -51,12 +51,12 @@ calm_run t (b ∷ w) x f =
     let h = or_false (eqb b 0x5c) (slashed w) f in
     calm_run (step plan12 b w t) w (calm_step b w t x h.1) h.1
 
-calm_answer : (s : List ℕ) (t : State) → Calm t → Plain ≡ escaped_by (answer s t)
+calm_answer : (s : List ℕ) (t : State) → Calm t → None ≡ escaped_by (answer s t)
 calm_answer s (going m l n p c o) (calm e) = refl
 calm_answer s (stopped _ _) x = elim x [ ]
 calm_answer s full x = elim x [ ]
 
 -- rule 12 finds nothing
-pub plain_without : (s : List ℕ) → slashed s ≡ false → Plain ≡ escaped_of s
+pub plain_without : (s : List ℕ) → slashed s ≡ false → None ≡ escaped_of s
 unfolding escaped_of slashed
 plain_without s e = calm_answer s _ (calm_run (going outside s [] 0 [] []) s (calm refl) e)

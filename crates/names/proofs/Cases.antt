@@ -3,8 +3,8 @@
 use Prim.Native.Nat.{ℕ}
 use mathlib.Core.Path.{◌≡◌, refl}
 use mathlib.Core.List.{List, [], ◌∷◌}
+use Rattle.std.specs.Prelude.{Some}
 use Rattle.names.specs.declared.Search.TheVariants.{Repeats, Full}
-use Rattle.names.specs.declared.Escaped.TheVariants.{Holds}
 use Rattle.json_text.specs.Strings.{to_close}
 use Rattle.names.specs.Strings.{same, slashed}
 use Rattle.names.specs.Order.{has, pairs}
@@ -27,6 +27,6 @@ unfolding search_of run to_close has pairs same outer
 no_room = refl
 
 -- {"a\n":1}
-escaped : escaped_of (0x7b ∷ 0x22 ∷ 0x61 ∷ 0x5c ∷ 0x6e ∷ 0x22 ∷ 0x3a ∷ 0x31 ∷ 0x7d ∷ []) ≡ Holds 1
+escaped : escaped_of (0x7b ∷ 0x22 ∷ 0x61 ∷ 0x5c ∷ 0x6e ∷ 0x22 ∷ 0x3a ∷ 0x31 ∷ 0x7d ∷ []) ≡ Some 1
 unfolding escaped_of run to_close slashed
 escaped = refl

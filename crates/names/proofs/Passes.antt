@@ -9,8 +9,8 @@ use lib.Dec.{eqb}
 use lib.ListN.{length, drop, take, get_or, length-drop}
 use Rattle.laws.proofs.Tests.{by_test}
 use Rattle.json_text.specs.Depth.Mode.{outside}
+use Rattle.std.specs.Prelude.{Some, None}
 use Rattle.names.specs.declared.Search.{Search}
-use Rattle.names.specs.declared.Escaped.TheVariants.{Plain, Holds}
 use Rattle.json_text.specs.Strings.{to_close}
 use Rattle.names.specs.Strings.{slashed}
 use Rattle.names.specs.Order.{Names}
@@ -83,7 +83,7 @@ module _ {s : List ℕ} {last size i : ℕ} (g : Passed s last size i) (h : i < 
   colon_passed b e = next _ _ _ (colon_turn plan12 s i h _ _ g.count g.inner g.outer b e refl)
 
   -- a name with one
-  pub colon_holds : get_or s i 0 ≡ 0x3a → slashed (take size (drop (last + 1) s)) ≡ true → Holds last ≡ escaped_of s
+  pub colon_holds : get_or s i 0 ≡ 0x3a → slashed (take size (drop (last + 1) s)) ≡ true → Some last ≡ escaped_of s
   colon_holds b e =
       let w : length s - length (drop last s) ≡ last = omega (arith, length-drop last s, g.string) in
       sym (g.runs ∙ by (colon_stops plan12 s i h _ _ g.count g.inner g.outer b e) ∙ rw w)
@@ -98,6 +98,6 @@ module _ {s : List ℕ} {last size i : ℕ} (g : Passed s last size i) (h : i < 
       (λ d. next _ _ _ (other_turn plan12 s i h _ _ g.count g.inner g.outer f a b d)))
 
 -- at the end of s
-pub plain : {s : List ℕ} {last size i : ℕ} → Passed s last size i → length s ≤ i → Plain ≡ escaped_of s
+pub plain : {s : List ℕ} {last size i : ℕ} → Passed s last size i → length s ≤ i → None ≡ escaped_of s
 unfolding run
 plain {s = s} {i = i} g l = sym (g.runs ∙ rw (past s i l))

@@ -7,8 +7,8 @@ use mathlib.Core.Bool.{false, true≢false}
 use mathlib.Core.List.{List}
 use Rattle.json_text.specs.Tree.{Json, Fields, depth}
 use Rattle.json_text.specs.Grammar.{Text}
+use Rattle.std.specs.Prelude.{None}
 use Rattle.names.specs.declared.Search.{Search}
-use Rattle.names.specs.declared.Escaped.TheVariants.{Plain}
 use Rattle.names.specs.Rules.{Backslash, Breaks12}
 use Rattle.names.specs.Rules.Backslash.{backslash_first, backslash_later}
 use Rattle.names.specs.Strings.{slashed}
@@ -55,5 +55,5 @@ rule12 {s = s} d =
 -- a text without a backslash does not break it
 pub no_backslash : {s : List ℕ} {j : Json} → Text s j → slashed s ≡ false → Breaks12 j → ⊥
 no_backslash {s = s} {j = j} d e = holds (rw (← plain_without s e) at (rule12 d)) where
-  holds : Rule12 j Plain → Breaks12 j → ⊥
+  holds : Rule12 j None → Breaks12 j → ⊥
   holds (holds12 f) = f

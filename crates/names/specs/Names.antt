@@ -1,15 +1,13 @@
 -- Rules 12 and 13 as functions of any bytes, by one machine that goes from byte to byte. A colon outside strings makes the
 -- last string a name of the innermost open bracket.
 -- Assumes nothing: these are definitions.
-use Rattle.std.specs.Prelude.{ℕ, suc, ◌+◌, ◌-◌, Bool, true, cond, List, [], ◌∷◌, eqb, ltb, length}
+use Rattle.std.specs.Prelude.{ℕ, suc, ◌+◌, ◌-◌, Bool, true, cond, List, [], ◌∷◌, eqb, ltb, length, Option, Some, None}
 use Rattle.json_text.specs.Depth.{Mode, Bracket, Kind, kind, turn}
 use Rattle.json_text.specs.Depth.Mode.{outside, inside, hidden}
 use Rattle.json_text.specs.Depth.Kind.{mark, slash, code}
 use Rattle.json_text.specs.Depth.Bracket.{opens, closes, neither}
 use Rattle.names.specs.declared.Search.{Search}
 use Rattle.names.specs.declared.Search.TheVariants.{Clear, Repeats, Full}
-use Rattle.names.specs.declared.Escaped.{Escaped}
-use Rattle.names.specs.declared.Escaped.TheVariants.{Plain, Holds}
 use Rattle.names.specs.Strings.{spelled}
 use Rattle.names.specs.Order.{Names, Stop, escapes, has, pairs}
 
@@ -80,14 +78,14 @@ answer s full = Full
 abbrev pub searched : Plan → List ℕ → Search
 searched plan s = answer s (run plan (going outside s [] 0 [] []) s)
 
--- the answer of rule 12
-abbrev pub escaped_by : Search → Escaped
-escaped_by (Clear p) = Plain
-escaped_by (Repeats at p) = Holds at
-escaped_by Full = Plain
+-- the answer of rule 12: where the name starts at which the search stops, if it does
+abbrev pub escaped_by : Search → Option ℕ
+escaped_by (Clear p) = None
+escaped_by (Repeats at p) = Some at
+escaped_by Full = None
 
 -- rule 12
-unfoldable pub escaped_of : List ℕ → Escaped
+unfoldable pub escaped_of : List ℕ → Option ℕ
 escaped_of s = escaped_by (searched plan12 s)
 
 -- rule 13 with room for cap names and brackets

@@ -5,16 +5,10 @@ ghost use Rattle.std.specs.Prelude.{◌≡◌, false, ◌+◌, ◌≤◌, length
 ghost use Rattle.names.specs.Strings.{slashed, same as same_bytes};
 ghost use Rattle.names.specs.Names.{escaped_of, search_of, repeat_of};
 
-// Of rule 12. Holds(p): the opening mark of the first name with a backslash is byte p.
-#[derive(Clone, Copy)]
-pub enum Escaped {
-    Plain,
-    Holds(usize),
-}
-
 // Of rule 13. Repeats(p, n): the opening mark of the first name that repeats an earlier one of its object is byte p.
 // n is the number of pairs of names of one length that were compared. Full: too many bytes, or too many names at once.
-#[derive(Clone, Copy)]
+// Stays: three cases, which the definitions `search_of` and `repeat_of` answer with, and neither an Option nor a Result has.
+#[derive(Clone, Copy, Debug, PartialEq, Eq)]
 pub enum Search {
     Clear(usize),
     Repeats(usize, usize),
@@ -26,51 +20,50 @@ fn has_backslash(s: &[u8]) -> bool
     ensures { result ≡ slashed s.now }
 {
     let mut seen = false;
-    let mut i = 0;
-    while i < s.len() {
-        seen = seen | (s[i] == 0x5c);
-        i += 1;
+    for &b in s {
+        seen |= b == b'\\';
     }
     seen
 }
 
 // The names of a text that has a backslash somewhere.
-fn first_with_backslash(s: &[u8]) -> Escaped
+fn first_with_backslash(s: &[u8]) -> Option<usize>
     ensures { result ≡ escaped_of s.now }
 {
     let mut last = 0;
     let mut size = 0;
     let mut i = 0;
+    // Stays: the step is the byte or the whole string that starts there, so a `for` over places would be no plainer.
     while i < s.len() {
         let b = s[i];
         let next = i + 1;
-        if b == 0x22 {
+        if b == b'"' {
             let e = json_text::close(s, next);
             last = i;
             size = e - next;
             i = e + 1;
-        } else if b == 0x3a {
+        } else if b == b':' {
             let from = last + 1;
             let to = from + size;
             if has_backslash(&s[from..to]) {
-                return Escaped::Holds(last);
+                return Some(last);
             }
             i = next;
         } else {
             i = next;
         }
     }
-    Escaped::Plain
+    None
 }
 
-// Rule 12: the first member name, in the order of the text, that holds a backslash.
-pub fn first_escaped(s: &[u8]) -> Escaped
+// Rule 12: the place of the opening mark of the first member name, in the order of the text, that holds a backslash.
+pub fn first_escaped(s: &[u8]) -> Option<usize>
     ensures { result ≡ escaped_of s.now }
 {
     if has_backslash(s) {
         first_with_backslash(s)
     } else {
-        Escaped::Plain
+        None
     }
 }
 
@@ -79,18 +72,13 @@ fn same(s: &[u8], a: usize, b: usize, n: usize) -> bool
     requires { (a + n ≤ length s.now) × (b + n ≤ length s.now) }
     ensures { result ≡ same_bytes (take n (drop a s.now)) (take n (drop b s.now)) }
 {
-    let mut j = 0;
-    while j < n {
-        if s[a + j] != s[b + j] {
-            return false;
-        }
-        j += 1;
-    }
-    true
+    s[a..a + n] == s[b..b + n]
 }
 
 // The search of rule 13. `starts` and `lengths` are a stack of names: those of the innermost open bracket are the entries
 // base .. top, and the entry below base keeps the base of the next outer bracket.
+// Stays: two arrays of u16. The entry of an open bracket is the outer base alone and has no length, so a struct of both would have a
+// field that means nothing there, and an enum would take 6 bytes in place of 4, of which the stack holds 13,146 (fixed memory).
 fn search_names(s: &[u8], starts: &mut [u16], lengths: &mut [u16]) -> Search
     requires { (length s.now ≤ 65536) × (length starts.old ≡ length lengths.old) }
     ensures { result ≡ search_of (length starts.old) s.now }
@@ -102,18 +90,18 @@ fn search_names(s: &[u8], starts: &mut [u16], lengths: &mut [u16]) -> Search
     let mut size = 0;
     let mut pairs = 0;
     let mut i = 0;
+    // Stays: the step is the byte or the whole string that starts there, so a `for` over places would be no plainer.
     'text: while i < s.len() {
         let b = s[i];
         let next = i + 1;
-        if b == 0x22 {
+        if b == b'"' {
             let e = json_text::close(s, next);
             last = i;
             size = e - next;
             i = e + 1;
-        } else if b == 0x3a {
+        } else if b == b':' {
             let from = last + 1;
-            let mut k = base;
-            'earlier: while k < top {
+            for k in base..top {
                 if lengths[k] as usize == size {
                     pairs += 1;
                     let start = starts[k] as usize + 1;
@@ -121,7 +109,6 @@ fn search_names(s: &[u8], starts: &mut [u16], lengths: &mut [u16]) -> Search
                         break 'text;
                     }
                 }
-                k += 1;
             }
             if top == room {
                 return Search::Full;
@@ -130,7 +117,7 @@ fn search_names(s: &[u8], starts: &mut [u16], lengths: &mut [u16]) -> Search
             lengths[top] = size as u16;
             top += 1;
             i = next;
-        } else if (b == 0x5b) | (b == 0x7b) {
+        } else if (b == b'[') | (b == b'{') {
             if top == room {
                 return Search::Full;
             }
@@ -138,7 +125,7 @@ fn search_names(s: &[u8], starts: &mut [u16], lengths: &mut [u16]) -> Search
             top += 1;
             base = top;
             i = next;
-        } else if ((b == 0x5d) | (b == 0x7d)) & (0 < base) {
+        } else if ((b == b']') | (b == b'}')) & (0 < base) {
             top = base - 1;
             base = starts[top] as usize;
             i = next;

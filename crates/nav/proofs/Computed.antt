@@ -1,13 +1,16 @@
 -- The steps and places that are computed mean what they should.
 -- Assumes nothing.
 use Prim.Native.Nat.{ℕ, ◌<◌}
-use mathlib.Core.Path.{refl}
+use mathlib.Core.Path.{◌≡◌, refl}
 use mathlib.Core.List.{List, [], ◌∷◌}
 use mathlib.Core.Option.{Option, some, none}
 use lib.Dec.{eqb}
 use borrow.Author.Tests.{eqb-true, eqb-false}
 use Rattle.laws.proofs.Tests.{by_test}
+use Rattle.nav.specs.declared.Step.{Step}
 use Rattle.nav.specs.declared.Step.TheVariants.{Bad}
+use lib.ListN.{drop}
+use native.Mathlib.Omega.{arith}
 use Rattle.json_text.specs.Tree.{Json}
 use Rattle.json_text.specs.Grammar.{IsWs, Ws}
 use Rattle.json_text.specs.Faults.{Fault, Not, NoValue}
@@ -21,10 +24,10 @@ use Rattle.nav.specs.Steps.Opens.{opens}
 use Rattle.nav.specs.Steps.OpenTo.{open_more, open_end, open_bad}
 use Rattle.nav.specs.Steps.AfterTo.{after_more, after_end, after_bad}
 use Rattle.json_text.proofs.Laws.{is_same}
-use Rattle.json_text.proofs.Cuts.{Cut, none as none_read, one, ws_reads, value_reads, ◌then◌}
+use Rattle.json_text.proofs.Cuts.{Cut, none as none_read, one, drop-cut, ws_reads, value_reads, ◌then◌}
 use Rattle.json_text.proofs.Tops.{place}
 use Rattle.json_text.proofs.Answers.{past_says}
-use Rattle.nav.proofs.Steps.{next_after, next_none}
+use Rattle.nav.proofs.Steps.{open_unique, next_unique, after_unique, next_after, next_none}
 
 -- what holds of each reading of a value holds of the computed one
 pub at_value : (n : ℕ) (w : List ℕ) (P : Option (Json × List ℕ) → Type 0) →
@@ -89,3 +92,14 @@ open_is {b = b} (a ∷ w) k =
     by_test (eqb a b)
     (λ e. rw e (rw (eqb-true a b e) (inside_is (past_ws w) y.0 y.1 (behind_one a k then (ws_reads y.0).cut))))
     (λ e. rw e (open_bad (not_head (λ i. eqb-false a b e (is_same i)))))
+
+-- `open`, `next` and `next_past` answer for the bytes
+module _ {s : List ℕ} (at : ℕ) {o : Step} where
+  pub open_answers : OpenTo s (drop at s) 0x5b 0x5d o → o ≡ open_of 0x5b 0x5d s (drop at s)
+  open_answers x = open_unique (omega arith) x (open_is (drop at s) (drop-cut s at))
+
+  pub next_answers : NextTo s (drop at s) 32 0x5d o → o ≡ next_of 32 0x5d s (drop at s)
+  next_answers x = next_unique (omega arith) x (next_is (omega arith) (drop-cut s at))
+
+  pub after_answers : AfterTo s (drop at s) 0x5d o → o ≡ after_of 0x5d s (drop at s)
+  after_answers x = after_unique (omega arith) x (after_is (drop-cut s at))

@@ -5,7 +5,7 @@ use mathlib.Core.Bool.{true, false}
 use mathlib.Core.List.{[], ◌∷◌}
 use Rattle.nav.specs.declared.Step.TheVariants.{More}
 use Rattle.nav.specs.declared.members.Member.TheVariants as member
-use Rattle.nav.specs.declared.scalars.Integer.TheVariants.{Is, Not}
+use Rattle.std.specs.Prelude.{Some, None}
 use Rattle.json_text.specs.Parse.{tree_at, past_ws, front_run}
 use Rattle.nav.specs.Places.{value_at}
 use Rattle.nav.specs.Steps.{next_of, after_of, behind_of, open_of, inside_of}
@@ -15,17 +15,17 @@ use Rattle.nav.specs.Members.{found_of, find_of, name_at, past_of}
 use Rattle.nav.specs.MemberSteps.{member_of, first_member_of, next_member_of}
 
 -- 4294967295 is an integer
-largest : integer_at (tree_at 32 (52 ∷ 50 ∷ 57 ∷ 52 ∷ 57 ∷ 54 ∷ 55 ∷ 50 ∷ 57 ∷ 53 ∷ [])) ≡ Is 4294967295
+largest : integer_at (tree_at 32 (52 ∷ 50 ∷ 57 ∷ 52 ∷ 57 ∷ 54 ∷ 55 ∷ 50 ∷ 57 ∷ 53 ∷ [])) ≡ Some 4294967295
 unfolding tree_at integer_of spelled decimal
 largest = refl
 
 -- 4294967296 is none
-too_large : integer_at (tree_at 32 (52 ∷ 50 ∷ 57 ∷ 52 ∷ 57 ∷ 54 ∷ 55 ∷ 50 ∷ 57 ∷ 54 ∷ [])) ≡ Not
+too_large : integer_at (tree_at 32 (52 ∷ 50 ∷ 57 ∷ 52 ∷ 57 ∷ 54 ∷ 55 ∷ 50 ∷ 57 ∷ 54 ∷ [])) ≡ None
 unfolding tree_at integer_of spelled decimal
 too_large = refl
 
 -- 1.0 is none
-fraction : integer_at (tree_at 32 (49 ∷ 46 ∷ 48 ∷ [])) ≡ Not
+fraction : integer_at (tree_at 32 (49 ∷ 46 ∷ 48 ∷ [])) ≡ None
 unfolding tree_at integer_of spelled decimal
 fraction = refl
 

@@ -34,10 +34,10 @@ plain_kind b f g h i j k l =
     )
 
 -- a digit starts a number
-digit_kind : (d : ℕ) → 0x31 ≤ d → d ≤ 0x39 → kind_of d ≡ Number
+pub digit_kind : (d : ℕ) → 0x30 ≤ d → d ≤ 0x39 → kind_of d ≡ Number
 digit_kind d a b =
     plain_kind d (λ e. omega arith) (λ e. omega arith) (λ e. omega arith) (λ e. omega arith) (λ e. omega arith)
-    (λ e. omega arith) (λ e. omega arith) ∙ rw (le-leb 0x30 d (omega arith), le-leb d 0x39 b)
+    (λ e. omega arith) (λ e. omega arith) ∙ rw (le-leb 0x30 d a, le-leb d 0x39 b)
 
 -- the first byte decides the kind
 pub value_kind : {w a : List ℕ} {j : Json} → Value w j a → kind_of (first w) ≡ tree_kind j
@@ -46,7 +46,7 @@ value_kind (val_scalar (sc_null h)) = refl
 value_kind (val_scalar (sc_true h)) = refl
 value_kind (val_scalar (sc_false h)) = refl
 value_kind (val_scalar (sc_number (num_plain (magnitude int_zero f e)))) = refl
-value_kind (val_scalar (sc_number (num_plain (magnitude (int_more {d = d} g h) f e)))) = digit_kind d g.0 g.1
+value_kind (val_scalar (sc_number (num_plain (magnitude (int_more {d = d} g h) f e)))) = digit_kind d (omega arith) g.1
 value_kind (val_scalar (sc_number (num_minus h))) = refl
 value_kind (val_scalar (sc_string h)) = refl
 value_kind (val_array0 x) = refl

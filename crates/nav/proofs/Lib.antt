@@ -1,10 +1,12 @@
 -- Laws of reading at places. `Navigation` has what the layers above cite.
+mod Scanned
 mod Steps
 mod Standing
 mod FirstBytes
 mod Spellings
 mod Numerals
 mod Elements
+mod Keeping
 mod Passes
 mod Searches
 mod Computed

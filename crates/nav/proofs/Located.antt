@@ -4,7 +4,8 @@ use Prim.Native.Nat.{ℕ, zero, suc, ◌≤◌, ◌<◌}
 use native.Mathlib.Omega.{arith}
 use mathlib.Core.Path.{◌≡◌, sym, ap, ◌∙◌}
 use mathlib.Core.Bool.{cond, true≢false}
-use mathlib.Core.List.{List, [], ◌∷◌}
+use mathlib.Core.List.{List, [], ◌∷◌, map}
+use Rattle.std.specs.List.{AllZip}
 use mathlib.Core.Option.{Option, some, none}
 use lib.Dec.{eqb}
 use lib.ListN.{length, drop, length-append}
@@ -162,19 +163,11 @@ past_is {s = s} {w = w} c =
         let p = place s r (c then (value_reads v).cut) in
         past_at {q = place_of s r} {ms = ms} (omega (arith, value_shorter v, cut_shorter c)) p.0 (rw p.1 v) d
 
--- the eight places, and the place past the object
-pub gather_is : {s w ka kb kc kd ke kf kg kh : List ℕ} → Cut s w →
-    Gathered s w ka kb kc kd ke kf kg kh (gather_of s w ka kb kc kd ke kf kg kh)
+-- the place of each word's member, and the place past the object
+pub gather_is : {s w : List ℕ} (ks : List (List ℕ)) → Cut s w → Gathered s w ks (gather_of s w ks)
 unfolding gather_of
-gather_is c =
-    record {
-      fa = found_is c;
-      fb = found_is c;
-      fc = found_is c;
-      fd = found_is c;
-      fe = found_is c;
-      ff = found_is c;
-      fg = found_is c;
-      fh = found_is c;
-      end = past_is c;
-    }
+gather_is {s = s} {w = w} ks c = record { found = each ks; end = past_is c }
+  where
+    each : (ks : List (List ℕ)) → AllZip (FoundTo s w) ks (map (λ k. found_of s k w) ks)
+    each [] = tt
+    each (k ∷ ks) = (found_is c, each ks)

@@ -3,15 +3,18 @@
 -- Assumes nothing.
 use Prim.Native.Nat.{ℕ, ◌≤◌, ◌<◌}
 use native.Mathlib.Omega.{arith}
-use mathlib.Core.Path.{◌≡◌, ap, ◌∙◌}
+use mathlib.Core.Path.{◌≡◌, refl, sym, ap, ◌∙◌}
 use mathlib.Core.Bool.{Bool}
-use mathlib.Core.List.{List}
-use lib.ListN.{length, drop}
+use lib.Dec.{eqb}
+use borrow.Author.Tests.{eqb-true, eqb-false}
+use Rattle.laws.proofs.Tests.{by_test}
+use mathlib.Core.List.{List, [], ◌∷◌, map}
+use lib.ListN.{length, drop, get_or}
 use Rattle.nav.specs.declared.Kind.{Kind}
 use Rattle.nav.specs.declared.Step.{Step}
 use Rattle.nav.specs.declared.Step.TheVariants.{More, End, Bad}
-use Rattle.nav.specs.declared.scalars.Integer.{Integer}
-use Rattle.nav.specs.declared.members.Places.{Places}
+use Rattle.std.specs.Prelude.{Option, Some, None}
+use Rattle.std.specs.List.{AllZip}
 use Rattle.json_text.specs.Tree.{Json, Values}
 use Rattle.json_text.specs.Answer.{first}
 use Rattle.json_text.specs.Parse.{tree_at}
@@ -20,7 +23,12 @@ use Rattle.nav.specs.Kinds.{kind_of, tree_kind}
 use Rattle.nav.specs.Steps.{open_of, next_of, after_of, OpenTo, NextTo, AfterTo}
 use Rattle.nav.specs.Words.{is_string, is_string_at, is_version, is_version_at}
 use Rattle.nav.specs.Integers.{integer_of, integer_at}
-use Rattle.nav.specs.Members.{gather_of, Gathered, PastTo, GatheredTree}
+use Rattle.nav.specs.declared.members.Members.{Members}
+use Rattle.nav.specs.Results.{as_place, Placed, members_of}
+use Rattle.std.proofs.lemmas.Option.{none-some}
+use Rattle.std.proofs.lemmas.List.{get_or-map}
+use Rattle.std.proofs.lemmas.List.FromFn.{get_or-map-range_with_len}
+use Rattle.nav.specs.Members.{Places, gather_of, found_of, past_of, field_of, Gathered, FoundTo, PastTo, FoundTree, GatheredTree}
 use Rattle.json_text.proofs.Laws.{later}
 use Rattle.nav.proofs.Steps.{opened, empty, shut, led, ended, lost, leads_shorter, opens_shorter, after_later}
 use Rattle.nav.proofs.FirstBytes.{value_kind}
@@ -28,13 +36,48 @@ use Rattle.nav.proofs.Elements.{went_on, closed_by, not_neither, array_some, arr
 use Rattle.nav.proofs.Searches.{find_tree, after_object}
 use Rattle.json_text.proofs.Cuts.{drop-cut}
 use Rattle.nav.proofs.Computed.{open_is, next_is, after_is}
-use Rattle.nav.proofs.Located.{gather_is}
+use Rattle.nav.proofs.Located.{found_is, past_is, gather_is}
 pub use Rattle.nav.proofs.Standing.{stands_unique, stands_tree, none_tree}
 pub use Rattle.nav.proofs.Steps.{open_unique, next_unique, after_unique}
 pub use Rattle.nav.proofs.Searches.{found_unique, past_unique, gather_unique, past_stands, at_some, at_none}
 pub use Rattle.nav.proofs.Tours.{first_exact, first_is, first_later, following_exact, following_is, following_later}
 pub use Rattle.nav.proofs.Tours.{members_toured, members_barred, toured, tour_ended, tour_never}
 pub use Rattle.nav.proofs.Tops.{accepted, refused}
+
+-- a place that is there
+pub placed_some : {P : ℕ → Type 0} {o : Option ℕ} {p : ℕ} → Placed P o → o ≡ Some p → P p × (p ≡ 0 → ⊥)
+placed_some {P = P} {p = p} x d =
+    let i = sym d ∙ x.is in
+    by_test (eqb x.at 0) (λ e. absurd (none-some p (sym (rw e at i))))
+    (λ e. let q : x.at ≡ p = sym (same (rw e at i)) in (rw q at x.holds, rw q at (eqb-false x.at 0 e)))
+  where
+    value : Option ℕ → ℕ
+    value None = 0
+    value (Some p) = p
+
+    same : {p q : ℕ} → ◌≡◌ {A = Option ℕ} (Some p) (Some q) → p ≡ q
+    same e = ap value e
+
+-- and none
+pub placed_none : {P : ℕ → Type 0} {o : Option ℕ} → Placed P o → o ≡ None → P 0
+placed_none {P = P} x d =
+    let i = sym d ∙ x.is in
+    by_test (eqb x.at 0) (λ e. rw (eqb-true x.at 0 e) at x.holds) (λ e. absurd (none-some x.at (rw e at i)))
+
+-- the place that `gather` answers for a word
+answered : (s w : List ℕ) (ks : List (List ℕ)) (n : ℕ) (r : Members n) → r ≡ members_of n (gather_of s w ks) → (i : ℕ) →
+    i < n → i < length ks → get_or r.places i None ≡ as_place (found_of s (get_or ks i []) w)
+unfolding gather_of members_of
+answered s w ks n r e i l m =
+    let f = get_or-map-range_with_len (λ i. as_place (get_or (map (λ k. found_of s k w) ks) i 0)) 0 n i i None l (omega arith) in
+    let g = get_or-map (λ k. found_of s k w) ks i [] 0 m in
+    rw e (f ∙ ap as_place g)
+
+-- and the one past the object
+answered_past : (s w : List ℕ) (ks : List (List ℕ)) (n : ℕ) (r : Members n) → r ≡ members_of n (gather_of s w ks) →
+    r.past ≡ as_place (past_of s w)
+unfolding gather_of members_of
+answered_past s w ks n r e = rw e refl
 
 -- what a value at a place says
 module _ {w : List ℕ} {j : Json} (t : Stands w j) where
@@ -43,7 +86,7 @@ module _ {w : List ℕ} {j : Json} (t : Stands w j) where
   kind_stands e = e ∙ value_kind t.reads
 
   -- its integer
-  pub integer_stands : {r : Integer} → r ≡ integer_at (tree_at 32 w) → r ≡ integer_of j
+  pub integer_stands : {r : Option ℕ} → r ≡ integer_at (tree_at 32 w) → r ≡ integer_of j
   integer_stands e = e ∙ ap integer_at (stands_tree t)
 
   -- whether it is the string k
@@ -67,10 +110,9 @@ module _ (s : List ℕ) (at : ℕ) where
   pub after_exact : AfterTo s (drop at s) 0x5d (after_of 0x5d s (drop at s))
   after_exact = after_is (drop-cut s at)
 
-  -- the eight places, and the place past the object
-  pub gather_exact : (ka kb kc kd ke kf kg kh : List ℕ) →
-      Gathered s (drop at s) ka kb kc kd ke kf kg kh (gather_of s (drop at s) ka kb kc kd ke kf kg kh)
-  gather_exact ka kb kc kd ke kf kg kh = gather_is (drop-cut s at)
+  -- the place of each word's member, and the place past the object
+  pub gather_exact : (ks : List (List ℕ)) → Gathered s (drop at s) ks (gather_of s (drop at s) ks)
+  gather_exact ks = gather_is ks (drop-cut s at)
 
   module _ {o : Step} {q : ℕ} where
     -- the step into an array leads to a later place of the text, on any bytes
@@ -114,25 +156,36 @@ module _ (s : List ℕ) (at : ℕ) where
   pub never : {o : Step} → o ≡ next_of 32 0x5d s (drop at s) → o ≡ Bad → {js : Values} → Walk (drop at s) js → ⊥
   never e d w = let m = lost (rw (← e) at next_exact) d in not_neither m.0 m.1 w
 
-  module _ {ka kb kc kd ke kf kg kh : List ℕ} {r : Places}
-      (e : r ≡ gather_of s (drop at s) ka kb kc kd ke kf kg kh) where
+  module _ {ks : List (List ℕ)} {r : Places} (e : r ≡ gather_of s (drop at s) ks) where
     -- what `gather` answers, on any bytes
-    pub gather_says : Gathered s (drop at s) ka kb kc kd ke kf kg kh r
-    gather_says = rw e (gather_exact ka kb kc kd ke kf kg kh)
+    pub gather_says : Gathered s (drop at s) ks r
+    gather_says = rw e (gather_exact ks)
 
     -- the members found are the tree's
-    pub gather_tree : {j : Json} → Stands (drop at s) j → GatheredTree s j ka kb kc kd ke kf kg kh r
-    gather_tree t =
-        record {
-          fa = find_tree gather_says.fa t;
-          fb = find_tree gather_says.fb t;
-          fc = find_tree gather_says.fc t;
-          fd = find_tree gather_says.fd t;
-          fe = find_tree gather_says.fe t;
-          ff = find_tree gather_says.ff t;
-          fg = find_tree gather_says.fg t;
-          fh = find_tree gather_says.fh t;
-        }
+    pub gather_tree : {j : Json} → Stands (drop at s) j → GatheredTree s j ks r
+    gather_tree {j = j} t = record { found = each ks r.places gather_says.found }
+      where
+        each : (ks : List (List ℕ)) (ps : List ℕ) → AllZip (FoundTo s (drop at s)) ks ps →
+            AllZip (λ k p. FoundTree s (field_of k j) p) ks ps
+        each [] [] x = tt
+        each [] (p ∷ ps) x = absurd x
+        each (k ∷ ks) [] x = absurd x
+        each (k ∷ ks) (p ∷ ps) x = (find_tree x.0 t, each ks ps x.1)
+
+  module _ (ks : List (List ℕ)) {n : ℕ} {r : Members n} (e : r ≡ members_of n (gather_of s (drop at s) ks)) where
+    -- it is the place of the word's member, on any bytes
+    pub gather_found : (i : ℕ) → i < n → i < length ks →
+        Placed (FoundTo s (drop at s) (get_or ks i [])) (get_or r.places i None)
+    gather_found i l m = record { at = _; holds = found_is (drop-cut s at); is = answered s (drop at s) ks n r e i l m }
+
+    -- it is the place of the tree's member
+    pub gather_member : {j : Json} → Stands (drop at s) j → (i : ℕ) → i < n → i < length ks →
+        Placed (FoundTree s (field_of (get_or ks i []) j)) (get_or r.places i None)
+    gather_member t i l m = record { at = _; holds = find_tree (found_is (drop-cut s at)) t; is = answered s (drop at s) ks n r e i l m }
+
+    -- and the place past the object, on any bytes
+    pub gather_past : Placed (PastTo s (drop at s)) r.past
+    gather_past = record { at = _; holds = past_is (drop-cut s at); is = answered_past s (drop at s) ks n r e }
 
   -- the step from past an object is the step past it, on any bytes
   pub past_next : {p : ℕ} → PastTo s (drop at s) p → (p ≡ 0 → ⊥) →

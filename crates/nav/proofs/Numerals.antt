@@ -7,12 +7,12 @@ use mathlib.Core.Path.{◌≡◌, refl, ap, ◌∙◌}
 use mathlib.Core.Bool.{Bool, true, false, cond, ◌&&◌}
 use mathlib.Core.List.{List, [], ◌∷◌}
 use lib.Dec.{leb}
-use lib.ListN.{length, drop, take, get_or, length-append, length-drop}
+use lib.ListN.{length, drop, take, get_or, length-append, length-drop, drop_of_length-le}
 use lib.Seq.{drop-cons, take_at}
 use borrow.Author.Tests.{le-leb, lt-leb, leb-true, leb-false}
-use Rattle.laws.proofs.Tests.{by_test}
-use Rattle.nav.specs.declared.scalars.Integer.{Integer}
-use Rattle.nav.specs.declared.scalars.Integer.TheVariants.{Is, Not}
+use Rattle.std.specs.Char.{is_ascii_digit}
+use Rattle.laws.proofs.Tests.{by_test, and-true}
+use Rattle.std.specs.Prelude.{Option, Some, None}
 use Rattle.json_text.specs.Tree.{Json}
 use Rattle.json_text.specs.Grammar.{Value}
 use Rattle.json_text.specs.Grammar.Scalar.{sc_null, sc_true, sc_false, sc_number, sc_string}
@@ -27,19 +27,11 @@ use Rattle.nav.specs.Words.{digits}
 use Rattle.json_text.proofs.Laws.{later}
 use Rattle.nav.proofs.Standing.{stands_of, stands_tree, none_tree, no_stands}
 
--- one more byte of a part
-pub part_more : (s : List ℕ) (i e : ℕ) → i < e → e ≤ length s →
-    take (e - i) (drop i s) ≡ get_or s i 0 ∷ take (e - (i + 1)) (drop (i + 1) s)
-part_more s i e h l =
-    let k : e - i ≡ suc (e - (i + 1)) = omega arith in
-    let d : drop i s ≡ get_or s i 0 ∷ drop (i + 1) s = rw (add-one, drop-cons s i 0 (omega arith)) in
-    rw (k, d)
-
 -- the same digit by digit: the integer that n, and then a spelling, are
-unfoldable pub integer_from : ℕ → List ℕ → Integer
-integer_from n [] = Is n
+unfoldable pub integer_from : ℕ → List ℕ → Option ℕ
+integer_from n [] = Some n
 integer_from n (d ∷ ds) =
-    cond (leb 0x30 d && leb d 0x39 && leb (10 * n + (d - 0x30)) 4294967295) (integer_from (10 * n + (d - 0x30)) ds) Not
+    cond (leb 0x30 d && leb d 0x39 && leb (10 * n + (d - 0x30)) 4294967295) (integer_from (10 * n + (d - 0x30)) ds) None
 
 -- a number does not fall with its digits
 decimal_grows : (n : ℕ) (ds : List ℕ) → n ≤ decimal n ds
@@ -54,7 +46,7 @@ not_both false e = refl
 
 -- digit by digit it is the same
 from_is : (n : ℕ) (ds : List ℕ) → n ≤ 4294967295 →
-    integer_from n ds ≡ cond (digits ds && leb (decimal n ds) 4294967295) (Is (decimal n ds)) Not
+    integer_from n ds ≡ cond (digits ds && leb (decimal n ds) 4294967295) (Some (decimal n ds)) None
 unfolding integer_from decimal
 from_is n [] l = rw (le-leb n 4294967295 l)
 from_is n (d ∷ ds) l =
@@ -80,19 +72,30 @@ pub from_on : (n d : ℕ) (ds : List ℕ) → 0x30 ≤ d → d ≤ 0x39 → 10 *
 unfolding integer_from
 from_on n d ds a b h = rw (le-leb 0x30 d a, le-leb d 0x39 b, le-leb (10 * n + (d - 0x30)) 4294967295 h)
 
--- a byte below the digits
-pub from_low : (n d : ℕ) (ds : List ℕ) → d < 0x30 → integer_from n (d ∷ ds) ≡ Not
+-- a byte that is no digit
+pub from_other : (n d : ℕ) (ds : List ℕ) → is_ascii_digit d ≡ false → integer_from n (d ∷ ds) ≡ None
 unfolding integer_from
-from_low n d ds a = rw (lt-leb 0x30 d a)
+from_other n d ds e = rw e
 
--- a byte above them
-pub from_high : (n d : ℕ) (ds : List ℕ) → 0x30 ≤ d → 0x39 < d → integer_from n (d ∷ ds) ≡ Not
+-- a byte that is one
+pub digit_is : (d : ℕ) → is_ascii_digit d ≡ true → (0x30 ≤ d) × (d ≤ 0x39)
+digit_is d e = let u = and-true (leb 0x30 d) (leb d 0x39) e in (leb-true 0x30 d u.0, leb-true d 0x39 u.1)
+
+-- the byte at a place, and those behind it
+pub from_at : (s : List ℕ) (i n : ℕ) {r : Option ℕ} → i < length s → integer_from n (drop i s) ≡ r →
+    integer_from n (get_or s i 0 ∷ drop (i + 1) s) ≡ r
+from_at s i n l e =
+    let d : drop i s ≡ get_or s i 0 ∷ drop (i + 1) s = rw (add-one, drop-cons s i 0 l) in
+    rw d at e
+
+-- and no byte at the end
+pub from_end : (s : List ℕ) (i n : ℕ) → length s ≤ i → integer_from n (drop i s) ≡ Some n
 unfolding integer_from
-from_high n d ds a b = rw (le-leb 0x30 d a, lt-leb d 0x39 b)
+from_end s i n l = rw (drop_of_length-le s {i = i} l)
 
 -- a digit with which the number is too large
 pub from_large : (n d : ℕ) (ds : List ℕ) → 0x30 ≤ d → d ≤ 0x39 → 4294967295 < 10 * n + (d - 0x30) →
-    integer_from n (d ∷ ds) ≡ Not
+    integer_from n (d ∷ ds) ≡ None
 unfolding integer_from
 from_large n d ds a b h =
     rw (le-leb 0x30 d a, le-leb d 0x39 b, lt-leb (10 * n + (d - 0x30)) 4294967295 h)
@@ -116,7 +119,7 @@ value_spells (suc n) (val_object0 h) e = refl
 value_spells (suc n) (val_object a h) e = refl
 
 -- the integer that stands there
-pub integer_of_lem : (s : List ℕ) (i p : ℕ) {r : Integer} → p ≤ length s → ValueOk 32 (drop i s) (drop p s) →
+pub integer_of_lem : (s : List ℕ) (i p : ℕ) {r : Option ℕ} → p ≤ length s → ValueOk 32 (drop i s) (drop p s) →
     r ≡ spelled (take (p - i) (drop i s)) → r ≡ integer_at (tree_at 32 (drop i s))
 integer_of_lem s i p h v e =
     let l = later s i p h (value_shorter v.1) in
@@ -124,5 +127,5 @@ integer_of_lem s i p h v e =
     rw (stands_tree (stands_of v)) (e ∙ k)
 
 -- none where nothing stands
-pub integer_none : {f : Fault} {w r : List ℕ} → NoValue 32 w f r → Not ≡ integer_at (tree_at 32 w)
+pub integer_none : {f : Fault} {w r : List ℕ} → NoValue 32 w f r → None ≡ integer_at (tree_at 32 w)
 integer_none {w = w} k = rw (none_tree w (λ j t. no_stands k t))

@@ -1,11 +1,12 @@
--- A pass over the members of an object: eight searches, and the place past the object.
+-- A pass over the members of an object: a search for each word, and the place past the object.
 -- Assumes nothing.
 use Prim.Native.Nat.{ℕ, ◌≤◌, ◌<◌}
 use native.Mathlib.Omega.{arith}
-use mathlib.Core.Path.{◌≡◌, refl}
-use mathlib.Core.List.{List, ◌∷◌}
-use lib.ListN.{length, drop}
-use Rattle.nav.specs.declared.members.Places.{Places}
+use borrow.Author.Tests.{ne_eqb}
+use mathlib.Core.Path.{◌≡◌, refl, ◌∙◌}
+use mathlib.Core.List.{List, [], ◌∷◌}
+use lib.ListN.{length, drop, get_or}
+use Rattle.std.specs.Prelude.{Option, Some, None}
 use Rattle.json_text.specs.Tree.{Json, Fields, depth, depths_of}
 use Rattle.json_text.specs.Grammar.{IsWs, Ws, Name, Value, Members}
 use Rattle.json_text.specs.Grammar.Value.{val_scalar, val_object0, val_object}
@@ -21,8 +22,9 @@ use Rattle.nav.specs.Members.{Finds, FoundTo, PastTo}
 use Rattle.nav.specs.Members.Finds.{finds_here, finds_on}
 use Rattle.nav.specs.Members.FoundTo.{found_at, found_absent}
 use Rattle.nav.specs.Members.PastTo.{past_at, past_none}
-use Rattle.nav.specs.Gathers.{nowhere, Kept, KeptAll}
+use Rattle.nav.specs.Gathers.{Kept, KeptAll}
 use Rattle.nav.specs.Gathers.Kept.{kept_new, kept_none, kept_old}
+use Rattle.nav.specs.Results.{as_place, Placed}
 use Rattle.json_text.proofs.Unique.{solid, ws_unique, name_unique, value_no_ws, members_no_ws, at_brace, at_comma}
 use Rattle.json_text.proofs.Excluded.{not_is}
 use Rattle.nav.proofs.Steps.{leads_unique, leads_brace, leads_no_ws, opens_unique, shut_none, empty_none}
@@ -37,17 +39,39 @@ pub data ShutTo (s w : List ℕ) : ℕ → Type 0 where
   shut_at : {q : ℕ} {ms : Fields} → 0 < q → q ≤ length s → Members w ms (drop q s) → depths_of ms ≤ 31 → ShutTo s w q
   unshut : ((ms : Fields) (r : List ℕ) → Members w ms r → depths_of ms ≤ 31 → ⊥) → ShutTo s w 0
 
--- eight searches among the members w, and the place past the object
-pub record Gathers (s w ka kb kc kd ke kf kg kh : List ℕ) (r : Places) : Type 0 where
-  pub fa : FindTo s w ka r.a
-  pub fb : FindTo s w kb r.b
-  pub fc : FindTo s w kc r.c
-  pub fd : FindTo s w kd r.d
-  pub fe : FindTo s w ke r.e
-  pub ff : FindTo s w kf r.f
-  pub fg : FindTo s w kg r.g
-  pub fh : FindTo s w kh r.h
-  pub end : ShutTo s w r.past
+-- where P holds of a place that is there
+pub there : {P : ℕ → Type 0} {p : ℕ} → 0 < p → P p → Placed P (Some p)
+there {p = p} h x = record { at = p; holds = x; is = there_is p h }
+  where
+    there_is : (p : ℕ) → 0 < p → ◌≡◌ {A = Option ℕ} (Some p) (as_place p)
+    there_is p h = let z : (p ≡ 0 → ⊥) = (λ e. omega arith) in rw (ne_eqb p 0 z)
+
+-- where P holds of no place
+pub nowhere : {P : ℕ → Type 0} → P 0 → Placed P None
+nowhere x = record { at = 0; holds = x; is = refl }
+
+-- the same place for another promise
+onto : {P Q : ℕ → Type 0} {o : Option ℕ} → ((p : ℕ) → P p → Q p) → Placed P o → Placed Q o
+onto f x = record { at = x.at; holds = f x.at x.holds; is = x.is }
+
+-- the places r, each as F says of its word and its place, and the place p, as E says of it
+pub record Gathers (F : List ℕ → ℕ → Type 0) (E : ℕ → Type 0) (ks : List (List ℕ)) (r : List (Option ℕ))
+    (p : Option ℕ) : Type 0 where
+  pub each : (i : ℕ) → i < length r → i < length ks → Placed (F (get_or ks i [])) (get_or r i None)
+  pub rest : (i : ℕ) → length ks ≤ i → get_or r i None ≡ None
+  pub end : Placed E p
+
+-- the same places for other promises
+pub gathers_onto : {F G : List ℕ → ℕ → Type 0} {E D : ℕ → Type 0} {ks : List (List ℕ)} {r : List (Option ℕ)}
+    {p : Option ℕ} → ((k : List ℕ) (p : ℕ) → F k p → G k p) → ((p : ℕ) → E p → D p) → Gathers F E ks r p →
+    Gathers G D ks r p
+gathers_onto f e g =
+    record { each = λ i a b. onto (f _) (g.each i a b); rest = g.rest; end = onto e g.end }
+
+-- no places, and the place past the object
+pub gathers_none : {F : List ℕ → ℕ → Type 0} {E : ℕ → Type 0} {ks : List (List ℕ)} {r : List (Option ℕ)}
+    {p : Option ℕ} → ((i : ℕ) → get_or r i None ≡ None) → ((k : List ℕ) → F k 0) → Placed E p → Gathers F E ks r p
+gathers_none n f e = record { each = λ i a b. rw (n i) (nowhere (f _)); rest = λ i a. n i; end = e }
 
 -- a search past a member that is named otherwise
 module _ {k w : List ℕ} where
@@ -132,137 +156,97 @@ shut_unnamed f = unshut (λ ms r k d. on f k)
     on f (mem_more (member n v) y z k) = f _ _ n
 
 -- a search for k from z on, that has come to w with the place p
-pub data Going (s z w k : List ℕ) : ℕ → Type 0 where
-  going : ((o : ℕ) → FindTo s w k o → FindTo s z k o) → Going s z w k 0
-  gone : {p : ℕ} → 0 < p → FindTo s z k p → Going s z w k p
+pub data Going (s z w k : List ℕ) : Option ℕ → Type 0 where
+  going : ((o : ℕ) → FindTo s w k o → FindTo s z k o) → Going s z w k None
+  gone : {p : ℕ} → 0 < p → FindTo s z k p → Going s z w k (Some p)
 
 -- what it comes to where nothing is left
-finish : {s z w k : List ℕ} {p : ℕ} → FindTo s w k 0 → Going s z w k p → FindTo s z k p
-finish a (going g) = g 0 a
-finish a (gone h f) = f
+finish : {s z w k : List ℕ} {p : Option ℕ} → FindTo s w k 0 → Going s z w k p → Placed (FindTo s z k) p
+finish a (going g) = nowhere (g 0 a)
+finish a (gone h f) = there h f
 
 -- past a member
 module _ {s w l : List ℕ} {v : ℕ} (n : Name w l (drop v s)) (m : Not IsWs (drop v s)) (h : 0 < v)
     (r : v ≤ length s) where
-  pass : {z k c : List ℕ} {j : Json} {p q : ℕ} → Leads 31 (drop v s) j c → Kept (Quoted k w) p v q → Going s z w k p →
-      Going s z c k q
-  pass x (kept_new e y) (going g) = gone h (g _ (find_at h r (finds_here n m y)))
-  pass x (kept_new e y) (gone i f) = absurd (omega arith)
-  pass x (kept_none e y) (going g) = going (λ o a. g o (step n m y x a))
-  pass x (kept_none e y) (gone i f) = absurd (omega arith)
-  pass x (kept_old i) (going g) = absurd (omega arith)
-  pass x (kept_old i) (gone i' f) = gone i f
+  pass : {z k c : List ℕ} {j : Json} {p q : Option ℕ} → Leads 31 (drop v s) j c → Kept (Quoted k w) v p q →
+      Going s z w k p → Going s z c k q
+  pass x (kept_new y) (going g) = gone h (g _ (find_at h r (finds_here n m y)))
+  pass x (kept_none y) (going g) = going (λ o a. g o (step n m y x a))
+  pass x kept_old (gone i f) = gone i f
 
   -- past the last member
-  last : {z k : List ℕ} {p q : ℕ} → ((j : Json) (c : List ℕ) → Leads 31 (drop v s) j c → ⊥) → Kept (Quoted k w) p v q →
-      Going s z w k p → FindTo s z k q
-  last x (kept_new e y) (going g) = g _ (find_at h r (finds_here n m y))
-  last x (kept_new e y) (gone i f) = absurd (omega arith)
-  last x (kept_none e y) (going g) = g _ (stuck n m y x)
-  last x (kept_none e y) (gone i f) = absurd (omega arith)
-  last x (kept_old i) (going g) = absurd (omega arith)
-  last x (kept_old i) (gone i' f) = f
+  last : {z k : List ℕ} {p q : Option ℕ} → ((j : Json) (c : List ℕ) → Leads 31 (drop v s) j c → ⊥) →
+      Kept (Quoted k w) v p q → Going s z w k p → Placed (FindTo s z k) q
+  last x (kept_new y) (going g) = there h (g _ (find_at h r (finds_here n m y)))
+  last x (kept_none y) (going g) = nowhere (g _ (stuck n m y x))
+  last x kept_old (gone i f) = there i f
 
--- eight searches from z on, that have come to w with the places r
-pub record GoingAll (s z w ka kb kc kd ke kf kg kh : List ℕ) (r : Places) : Type 0 where
-  pub fa : Going s z w ka r.a
-  pub fb : Going s z w kb r.b
-  pub fc : Going s z w kc r.c
-  pub fd : Going s z w kd r.d
-  pub fe : Going s z w ke r.e
-  pub ff : Going s z w kf r.f
-  pub fg : Going s z w kg r.g
-  pub fh : Going s z w kh r.h
+-- a search for each of the words ks from z on, that have come to w with the places r
+pub record GoingAll (s z w : List ℕ) (ks : List (List ℕ)) (r : List (Option ℕ)) : Type 0 where
+  pub each : (i : ℕ) → i < length r → i < length ks → Going s z w (get_or ks i []) (get_or r i None)
+  pub rest : (i : ℕ) → length ks ≤ i → get_or r i None ≡ None
   pub end : (o : ℕ) → ShutTo s w o → ShutTo s z o
-  pub past : r.past ≡ 0
 
--- eight searches at their start
-pub starts : {s z ka kb kc kd ke kf kg kh : List ℕ} → GoingAll s z z ka kb kc kd ke kf kg kh nowhere
-starts =
-    record {
-      fa = going (λ o a. a);
-      fb = going (λ o a. a);
-      fc = going (λ o a. a);
-      fd = going (λ o a. a);
-      fe = going (λ o a. a);
-      ff = going (λ o a. a);
-      fg = going (λ o a. a);
-      fh = going (λ o a. a);
-      end = λ o a. a;
-      past = refl;
-    }
+-- these searches at their start
+pub starts : {s z : List ℕ} {ks : List (List ℕ)} {r : List (Option ℕ)} → ((i : ℕ) → get_or r i None ≡ None) →
+    GoingAll s z z ks r
+starts n =
+    record { each = λ i a b. rw (n i) (going (λ o x. x)); rest = λ i a. n i; end = λ o a. a }
 
--- the same places, with the object's end
-abbrev pub ended : Places → ℕ → Places
-ended r q = record { a = r.a; b = r.b; c = r.c; d = r.d; e = r.e; f = r.f; g = r.g; h = r.h; past = q }
-
-module _ {s z w ka kb kc kd ke kf kg kh : List ℕ} where
+module _ {s z w : List ℕ} {ks : List (List ℕ)} where
   -- no member follows
-  pub finish_all : {r : Places} → ((l v : List ℕ) → Name w l v → ⊥) → GoingAll s z w ka kb kc kd ke kf kg kh r →
-      Gathers s z ka kb kc kd ke kf kg kh r
+  pub finish_all : {r : List (Option ℕ)} → ((l v : List ℕ) → Name w l v → ⊥) → GoingAll s z w ks r →
+      Gathers (FindTo s z) (ShutTo s z) ks r None
   finish_all n g =
       record {
-        fa = finish (unnamed n) g.fa;
-        fb = finish (unnamed n) g.fb;
-        fc = finish (unnamed n) g.fc;
-        fd = finish (unnamed n) g.fd;
-        fe = finish (unnamed n) g.fe;
-        ff = finish (unnamed n) g.ff;
-        fg = finish (unnamed n) g.fg;
-        fh = finish (unnamed n) g.fh;
-        end = rw g.past (g.end 0 (shut_unnamed n));
+        each = λ i a b. finish (unnamed n) (g.each i a b);
+        rest = g.rest;
+        end = nowhere (g.end 0 (shut_unnamed n));
       }
 
   -- past a member
-  module _ {l : List ℕ} {v : ℕ} {old r : Places} (n : Name w l (drop v s)) (m : Not IsWs (drop v s)) (h : 0 < v)
-      (t : v ≤ length s) (k : KeptAll w v ka kb kc kd ke kf kg kh old r)
-      (g : GoingAll s z w ka kb kc kd ke kf kg kh old) where
-    pub pass_all : {c : List ℕ} {j : Json} → Leads 31 (drop v s) j c → GoingAll s z c ka kb kc kd ke kf kg kh r
+  module _ {l : List ℕ} {v : ℕ} {old r : List (Option ℕ)} (n : Name w l (drop v s)) (m : Not IsWs (drop v s))
+      (h : 0 < v) (t : v ≤ length s) (k : KeptAll w v ks old r) (g : GoingAll s z w ks old) where
+    -- the place of a word
+    old_each : (i : ℕ) → i < length r → i < length ks → Going s z w (get_or ks i []) (get_or old i None)
+    old_each i a b = g.each i (omega (arith, k.long)) b
+
+    kept_each : (i : ℕ) → i < length r → i < length ks →
+        Kept (Quoted (get_or ks i []) w) v (get_or old i None) (get_or r i None)
+    kept_each i a b = k.each i (omega (arith, k.long)) b
+
+    -- there is no place where there is no word
+    kept_rest : (i : ℕ) → length ks ≤ i → get_or r i None ≡ None
+    kept_rest i a = k.rest i a ∙ g.rest i a
+
+    pub pass_all : {c : List ℕ} {j : Json} → Leads 31 (drop v s) j c → GoingAll s z c ks r
     pass_all x =
         record {
-          fa = pass n m h t x k.fa g.fa;
-          fb = pass n m h t x k.fb g.fb;
-          fc = pass n m h t x k.fc g.fc;
-          fd = pass n m h t x k.fd g.fd;
-          fe = pass n m h t x k.fe g.fe;
-          ff = pass n m h t x k.ff g.ff;
-          fg = pass n m h t x k.fg g.fg;
-          fh = pass n m h t x k.fh g.fh;
+          each = λ i a b. pass n m h t x (kept_each i a b) (old_each i a b);
+          rest = kept_rest;
           end = λ o a. g.end o (shut_step n m x a);
-          past = k.past;
         }
 
     -- past the last member, with the object's end at q
     pub last_all : {j : Json} (q : ℕ) → 0 < q → q ≤ length s → Ends 31 0x7d (drop v s) j (drop q s) →
-        Gathers s z ka kb kc kd ke kf kg kh (ended r q)
+        Gathers (FindTo s z) (ShutTo s z) ks r (Some q)
     last_all q p i x =
         let f : (i : Json) (c : List ℕ) → Leads 31 (drop v s) i c → ⊥ = (λ i c y. leads_brace y x) in
         record {
-          fa = last n m h t f k.fa g.fa;
-          fb = last n m h t f k.fb g.fb;
-          fc = last n m h t f k.fc g.fc;
-          fd = last n m h t f k.fd g.fd;
-          fe = last n m h t f k.fe g.fe;
-          ff = last n m h t f k.ff g.ff;
-          fg = last n m h t f k.fg g.fg;
-          fh = last n m h t f k.fh g.fh;
-          end = g.end q (shut_last n x p i);
+          each = λ i a b. last n m h t f (kept_each i a b) (old_each i a b);
+          rest = kept_rest;
+          end = there p (g.end q (shut_last n x p i));
         }
 
     -- past a member that nothing right follows
     pub bad_all : ((j : Json) (c : List ℕ) → Leads 31 (drop v s) j c → ⊥) →
-        ((j : Json) (c : List ℕ) → Ends 31 0x7d (drop v s) j c → ⊥) → Gathers s z ka kb kc kd ke kf kg kh r
+        ((j : Json) (c : List ℕ) → Ends 31 0x7d (drop v s) j c → ⊥) →
+        Gathers (FindTo s z) (ShutTo s z) ks r None
     bad_all x y =
         record {
-          fa = last n m h t x k.fa g.fa;
-          fb = last n m h t x k.fb g.fb;
-          fc = last n m h t x k.fc g.fc;
-          fd = last n m h t x k.fd g.fd;
-          fe = last n m h t x k.fe g.fe;
-          ff = last n m h t x k.ff g.ff;
-          fg = last n m h t x k.fg g.fg;
-          fh = last n m h t x k.fh g.fh;
-          end = rw k.past (g.end 0 (shut_bad n m x y));
+          each = λ i a b. last n m h t x (kept_each i a b) (old_each i a b);
+          rest = kept_rest;
+          end = nowhere (g.end 0 (shut_bad n m x y));
         }
 
 -- a search among the members of an object is a search in the object

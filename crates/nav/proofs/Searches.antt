@@ -3,12 +3,12 @@
 use Prim.Native.Nat.{ℕ, ◌≤◌, ◌<◌}
 use native.Mathlib.Omega.{arith}
 use mathlib.Core.Path.{◌≡◌, refl, ◌∙◌}
-use mathlib.Core.List.{List}
+use mathlib.Core.List.{List, [], ◌∷◌}
 use mathlib.Core.Option.{Option, some, none}
 use lib.ListN.{length, drop}
 use Rattle.laws.proofs.Tests.{by_test}
 use Rattle.nav.specs.declared.Step.{Step}
-use Rattle.nav.specs.declared.members.Places.{Places}
+use Rattle.std.specs.List.{AllZip}
 use Rattle.json_text.specs.Tree.{Json, Fields, depth, depths_of}
 use Rattle.json_text.specs.Grammar.{Name, Value, Members}
 use Rattle.json_text.specs.Grammar.Name.{name}
@@ -25,7 +25,7 @@ use Rattle.nav.specs.Steps.Opens.{opens}
 use Rattle.nav.specs.Steps.Leads.{leads}
 use Rattle.nav.specs.Steps.Ends.{ends}
 use Rattle.nav.specs.Words.{spells, Quoted}
-use Rattle.nav.specs.Members.{lookup, field_of, Finds, FoundTo, PastTo, Gathered, FoundTree}
+use Rattle.nav.specs.Members.{Places, lookup, field_of, Finds, FoundTo, PastTo, Gathered, FoundTree}
 use Rattle.nav.specs.Members.Finds.{finds_here, finds_on}
 use Rattle.nav.specs.Members.FoundTo.{found_at, found_absent}
 use Rattle.nav.specs.Members.PastTo.{past_at, past_none}
@@ -158,25 +158,26 @@ past_unique (past_at h l v d) (past_none f) = absurd (f _ _ v d)
 past_unique (past_none f) (past_at i m u e) = absurd (f _ _ u e)
 past_unique (past_none f) (past_none g) = refl
 
--- places that are the same one by one
-same_places : {o p : Places} → o.a ≡ p.a → o.b ≡ p.b → o.c ≡ p.c → o.d ≡ p.d → o.e ≡ p.e → o.f ≡ p.f →
-    o.g ≡ p.g → o.h ≡ p.h → o.past ≡ p.past → o ≡ p
-same_places {o = o} {p = p} a b c d e f g h i = ap9 a b c d e f g h i
-  where
-    placed : ℕ → ℕ → ℕ → ℕ → ℕ → ℕ → ℕ → ℕ → ℕ → Places
-    placed a b c d e f g h i = record { a = a; b = b; c = c; d = d; e = e; f = f; g = g; h = h; past = i }
-
-    ap9 : {a b c d e f g h i a' b' c' d' e' f' g' h' i' : ℕ} → a ≡ a' → b ≡ b' → c ≡ c' → d ≡ d' → e ≡ e' → f ≡ f' →
-        g ≡ g' → h ≡ h' → i ≡ i' → placed a b c d e f g h i ≡ placed a' b' c' d' e' f' g' h' i'
-    ap9 a b c d e f g h i = rw (a, b, c, d, e, f, g, h, i)
+-- one place of each member
+pub all_unique : (s w : List ℕ) (ks : List (List ℕ)) (os ps : List ℕ) → AllZip (FoundTo s w) ks os →
+    AllZip (FoundTo s w) ks ps → os ≡ ps
+all_unique s w [] [] [] x y = refl
+all_unique s w [] [] (p ∷ ps) x y = absurd y
+all_unique s w [] (o ∷ os) ps x y = absurd x
+all_unique s w (k ∷ ks) [] ps x y = absurd x
+all_unique s w (k ∷ ks) (o ∷ os) [] x y = absurd y
+all_unique s w (k ∷ ks) (o ∷ os) (p ∷ ps) x y = rw (found_unique x.0 y.0, all_unique s w ks os ps x.1 y.1)
 
 -- `gather` has one answer
-pub gather_unique : {s w ka kb kc kd ke kf kg kh : List ℕ} {o p : Places} →
-    Gathered s w ka kb kc kd ke kf kg kh o → Gathered s w ka kb kc kd ke kf kg kh p → o ≡ p
-gather_unique x y =
-    same_places (found_unique x.fa y.fa) (found_unique x.fb y.fb) (found_unique x.fc y.fc)
-    (found_unique x.fd y.fd) (found_unique x.fe y.fe) (found_unique x.ff y.ff)
-    (found_unique x.fg y.fg) (found_unique x.fh y.fh) (past_unique x.end y.end)
+pub gather_unique : {s w : List ℕ} {ks : List (List ℕ)} {o p : Places} → Gathered s w ks o → Gathered s w ks p → o ≡ p
+gather_unique {s = s} {w = w} {ks = ks} {o = o} {p = p} x y =
+    both (all_unique s w ks o.places p.places x.found y.found) (past_unique x.end y.end)
+  where
+    placed : List ℕ → ℕ → Places
+    placed ps q = record { places = ps; past = q }
+
+    both : {ps qs : List ℕ} {q r : ℕ} → ps ≡ qs → q ≡ r → placed ps q ≡ placed qs r
+    both a b = rw (a, b)
 
 -- where an object stands, the place past it is where its derivation ends
 pub past_stands : {s w : List ℕ} {o : ℕ} {ms : Fields} → PastTo s w o → (t : Stands w (Json.object ms)) →

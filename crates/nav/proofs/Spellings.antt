@@ -1,15 +1,12 @@
 -- Strings at places: a plain word, and a version of rule 14.
 -- Assumes nothing.
-use Prim.Native.Nat.{ℕ, ◌+◌, ◌≤◌, ◌<◌}
+use Prim.Native.Nat.{ℕ, ◌≤◌}
 use native.Mathlib.Omega.{arith}
-use native.Mathlib.Numerals.{add-one}
 use mathlib.Core.Path.{◌≡◌, refl, sym, ap, ◌∙◌}
 use mathlib.Core.Bool.{Bool, true, false, ◌&&◌, true≢false}
 use mathlib.Core.List.{List, [], ◌∷◌}
 use lib.Dec.{eqb, leb}
-use lib.ListN.{length, drop, get_or, drop_of_length-le}
-use lib.Seq.{drop-cons}
-use borrow.Author.Tests.{eqb-true, eqb-false, eq-eqb, le-leb}
+use borrow.Author.Tests.{eqb-true, eq-eqb, le-leb}
 use Rattle.laws.proofs.Tests.{by_test, and-true}
 use Rattle.json_text.specs.Tree.{Json, depth}
 use Rattle.json_text.specs.Grammar.{Lit, Plain, Digit, Digits, Some, Chars, Name, Value}
@@ -28,7 +25,12 @@ use Rattle.json_text.specs.Faults.NoSome.{some_bad}
 use Rattle.json_text.specs.Scans.{Tells}
 use Rattle.json_text.specs.Scans.Tells.{tells_true, tells_false}
 use Rattle.json_text.specs.Numbers.{digits_unique}
-use Rattle.json_text.specs.Answer.{first}
+use Rattle.std.specs.Prelude as std
+use Rattle.std.specs.List.{list_all}
+use Rattle.std.specs.Option.{option_eq}
+use Rattle.std.proofs.lemmas.Option.{none-some}
+use Rattle.nav.specs.Results.{front_of}
+use Rattle.nav.proofs.Scanned.{same_byte, is_byte, no_byte}
 use Rattle.json_text.specs.Parse.{tree_at}
 use Rattle.json_text.specs.Strings.{plain}
 use Rattle.nav.specs.Places.{Stands}
@@ -57,28 +59,11 @@ same_refl : (x : List ℕ) → same x x ≡ true
 same_refl [] = refl
 same_refl (a ∷ x) = rw (eq-eqb a a refl, same_refl x)
 
--- a word from one byte on
-plains_from : (word : List ℕ) (k : ℕ) → k < length word →
-    plains (drop k word) ≡ (plain (get_or word k 0) && plains (drop (k + 1) word))
+-- a word is plain where each of its bytes is
+pub plains_all : (word : List ℕ) → plains word ≡ list_all plain word
 unfolding plains
-plains_from word k l =
-    let d : drop k word ≡ get_or word k 0 ∷ drop (k + 1) word = rw (add-one, drop-cons word k 0 l) in
-    rw d
-
--- a byte of a word that is plain
-pub plains_on : (word : List ℕ) (k : ℕ) {t : Bool} → k < length word → t ≡ plain (get_or word k 0) → t ≡ true →
-    plains (drop k word) ≡ plains (drop (k + 1) word)
-plains_on word k l a e = plains_from word k l ∙ (rw (← a, e))
-
--- and one that is not
-pub plains_off : (word : List ℕ) (k : ℕ) {t : Bool} → k < length word → t ≡ plain (get_or word k 0) → t ≡ false →
-    plains (drop k word) ≡ false
-plains_off word k l a e = plains_from word k l ∙ (rw (← a, e))
-
--- a word at its end
-pub plains_end : (word : List ℕ) (k : ℕ) → length word ≤ k → plains (drop k word) ≡ true
-unfolding plains
-plains_end word k l = rw (drop_of_length-le word {i = k} l)
+plains_all [] = refl
+plains_all (b ∷ word) = rw (plains_all word) refl
 
 -- whether a byte is a digit
 digit_tells : (d : ℕ) → Tells (Digit d) (leb 0x30 d && leb d 0x39)
@@ -260,21 +245,22 @@ version_digits_no h k = tells_false (λ v. let x = version_start v in none k (rw
     none (some_bad (not_head g)) (some d h) = g d
 
 -- the closing mark is there
-version_closed : {w a ds : List ℕ} (v : List ℕ) → Lit Start w a → SomeTo a ds v → first v ≡ 0x22 → Versioned w
-version_closed [] h k e = absurd (omega arith)
-version_closed (b ∷ v) (lit_more (lit_more (lit_more lit_none))) (to_some d k n) e = versioned (some d (rw e at k))
+version_closed : {w a ds : List ℕ} (v : List ℕ) → Lit Start w a → SomeTo a ds v → front_of v ≡ std.Some 0x22 → Versioned w
+version_closed [] h k e = absurd (none-some 0x22 e)
+version_closed (b ∷ v) (lit_more (lit_more (lit_more lit_none))) (to_some d k n) e =
+    versioned (some d (rw (same_byte e) at k))
 
 -- and only then
-version_close : {w a ds v : List ℕ} → Lit Start w a → SomeTo a ds v → Versioned w → first v ≡ 0x22
+version_close : {w a ds v : List ℕ} → Lit Start w a → SomeTo a ds v → Versioned w → front_of v ≡ std.Some 0x22
 version_close h k y = let x = version_start y in by k (rw (← lit_unique h x.3) at x.4)
   where
-    by : {a ds es v b : List ℕ} → SomeTo a ds v → Some a es (0x22 ∷ b) → first v ≡ 0x22
-    by (to_some d h n) (some g k) = ap first (digits_unique h n k (not_head (λ d. omega arith))).1
+    by : {a ds es v b : List ℕ} → SomeTo a ds v → Some a es (0x22 ∷ b) → front_of v ≡ std.Some 0x22
+    by (to_some d h n) (some g k) = ap front_of (digits_unique h n k (not_head (λ d. omega arith))).1
 
 -- the closing mark decides
-pub version_mark : {w a ds v : List ℕ} {b : ℕ} → Lit Start w a → SomeTo a ds v → b ≡ first v →
-    Tells (Versioned w) (eqb b 0x22)
+pub version_mark : {w a ds v : List ℕ} {b : std.Option ℕ} → Lit Start w a → SomeTo a ds v → b ≡ front_of v →
+    Tells (Versioned w) (option_eq eqb b (std.Some 0x22))
 version_mark {v = v} {b = b} h k e =
-    by_test (eqb b 0x22)
-    (λ t. rw t (tells_true (version_closed v h k (sym e ∙ eqb-true b 0x22 t))))
-    (λ t. rw t (tells_false (λ y. eqb-false b 0x22 t (e ∙ version_close h k y))))
+    by_test (option_eq eqb b (std.Some 0x22))
+    (λ t. rw t (tells_true (version_closed v h k (sym e ∙ is_byte b 0x22 t))))
+    (λ t. rw t (tells_false (λ y. no_byte b 0x22 t (e ∙ version_close h k y))))

@@ -17,7 +17,9 @@ use Rattle.json_text.specs.Faults.Not.{not_end, not_head}
 use Rattle.json_text.specs.Faults.Is.{is}
 use Rattle.json_text.specs.Lengths.{value_shorter, ws_shorter}
 use Rattle.json_text.specs.Parse.{neither}
-use Rattle.json_text.specs.Answer.{first}
+use Rattle.nav.specs.Results.{front_of}
+use Rattle.std.specs.Prelude.{Option, Some}
+use Rattle.std.proofs.lemmas.Option.{none-some}
 use Rattle.nav.specs.Steps.{Opens, OpenTo, Leads, Ends, NextTo, AfterTo}
 use Rattle.nav.specs.Steps.Opens.{opens}
 use Rattle.nav.specs.Steps.OpenTo.{open_more, open_end, open_bad}
@@ -29,34 +31,35 @@ use Rattle.json_text.proofs.Laws.{Byte, is_same, later}
 use Rattle.json_text.proofs.Unique.{solid, heads, tails, ws_unique, value_unique, value_no_ws, same_comma}
 use Rattle.json_text.proofs.Excluded.{not_is, Wrong, no_value, not_comma, not_follows, follows_no_ws}
 use Rattle.json_text.proofs.Excluded.Wrong.{deeper}
+use Rattle.nav.proofs.Scanned.{same_byte}
 
 -- a place is known by what follows it
 pub same_place : (s : List ℕ) (p q : ℕ) → p ≤ length s → q ≤ length s → drop p s ≡ drop q s → p ≡ q
 same_place s p q l m e = let h : length s - p ≡ length s - q = simp (← length-drop) (ap length e) in omega arith
 
 -- the byte k at a place
-pub front_here : (k : ℕ) (s : List ℕ) (at : ℕ) {b : ℕ} → b ≡ first (drop at s) → b ≡ k → k < 256 → Byte k s at
-front_here k s at e t h = elim (dec_le (suc at) (length s)) [ yes l ↦ byte l | no f ↦ none (omega arith) ]
+pub front_here : (k : ℕ) (s : List ℕ) (at : ℕ) {b : Option ℕ} → b ≡ front_of (drop at s) → b ≡ Some k → Byte k s at
+front_here k s at e t = elim (dec_le (suc at) (length s)) [ yes l ↦ byte l | no f ↦ none (omega arith) ]
   where
     byte : at < length s → Byte k s at
     byte l =
         let d : drop at s ≡ get_or s at 0 ∷ drop (at + 1) s = rw (add-one, drop-cons s at 0) in
-        let b : get_or s at 0 ≡ k = rw d at (sym e ∙ t) in
+        let b : get_or s at 0 ≡ k = same_byte (rw d at (sym e ∙ t)) in
         record { within = l; next = omega arith; split = rw (← b) d }
 
     none : length s ≤ at → Byte k s at
-    none l = let b : 256 ≡ k = rw (drop_of_length-le s {i = at} l) at (sym e ∙ t) in absurd (omega arith)
+    none l = absurd (none-some k (rw (drop_of_length-le s {i = at} l) at (sym e ∙ t)))
 
 -- another byte than k at a place, or none
-pub front_other : (k : ℕ) (w : List ℕ) {b : ℕ} → b ≡ first w → (b ≡ k → ⊥) → Not (Is k) w
+pub front_other : (k : ℕ) (w : List ℕ) {b : Option ℕ} → b ≡ front_of w → (b ≡ Some k → ⊥) → Not (Is k) w
 front_other k [] e f = not_end
-front_other k (a ∷ w) e f = not_head (λ i. f (e ∙ is_same i))
+front_other k (a ∷ w) e f = not_head (λ i. f (e ∙ ap Some (is_same i)))
 
 -- neither the bracket c nor a comma, where white space has ended
-pub front_neither : {c : ℕ} (w : List ℕ) {b : ℕ} → b ≡ first w → (b ≡ c → ⊥) → (b ≡ 0x2c → ⊥) → Not IsWs w →
-    Not (Follows c) w
+pub front_neither : {c : ℕ} (w : List ℕ) {b : Option ℕ} → b ≡ front_of w → (b ≡ Some c → ⊥) → (b ≡ Some 0x2c → ⊥) →
+    Not IsWs w → Not (Follows c) w
 front_neither [] e f g n = not_end
-front_neither (a ∷ w) e f g (not_head n) = not_head (neither n (λ h. f (e ∙ h)) (λ h. g (e ∙ h)))
+front_neither (a ∷ w) e f g (not_head n) = not_head (neither n (λ h. f (e ∙ ap Some h)) (λ h. g (e ∙ ap Some h)))
 
 -- a fault of a scan with n levels leaves no value of at most n
 pub wrong_none : {f : Fault} {n d : ℕ} → Wrong f n d → d ≤ n → ⊥

@@ -5,7 +5,7 @@ use mathlib.Core.Path.{◌≡◌, refl}
 use mathlib.Core.List.{List}
 use mathlib.Core.Option.{Option, some, none}
 use lib.ListN.{length, drop}
-use Rattle.json_text.specs.declared.answer.Scan.TheVariants.{Past}
+use Rattle.std.specs.Prelude.{Ok}
 use Rattle.json_text.specs.Tree.{Json, Fields, depth}
 use Rattle.json_text.specs.Grammar.{Text}
 use Rattle.json_text.specs.Grammar.Text.{text}
@@ -27,14 +27,14 @@ top_stands {s = s} (text {a = a} {b = b} x v y) d =
     rw (past x (value_no_ws v), p.1) (record { rest = b; reads = v; stop = at_end v y; shallow = d })
 
 -- an accepted text: its tree is an object, which stands at its start
-pub accepted : (s : List ℕ) (p : ℕ) → scan_of 32 s ≡ Past p →
+pub accepted : (s : List ℕ) (p : ℕ) → scan_of 32 s ≡ Ok p →
     (ms : Fields) × (tree_of 32 s ≡ some (Json.object ms)) × Stands (drop (start_of s) s) (Json.object ms)
 accepted s p e =
     let k = past_says (checked 32 s) e in
     (k.1, tree_complete 32 s (Json.object k.1) k.2 k.3, top_stands k.2 k.3)
 
 -- a refused text has no tree that is an object
-pub refused : (s : List ℕ) → ((p : ℕ) → scan_of 32 s ≡ Past p → ⊥) → object_of (tree_of 32 s) ≡ none
+pub refused : (s : List ℕ) → ((p : ℕ) → scan_of 32 s ≡ Ok p → ⊥) → object_of (tree_of 32 s) ≡ none
 refused s f = by (tree_of 32 s) refl
   where
     by : (o : Option Json) → tree_of 32 s ≡ o → object_of o ≡ none

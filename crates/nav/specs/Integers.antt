@@ -1,9 +1,8 @@
 -- An integer of document 01: digits only, at most 4,294,967,295.
 -- Assumes nothing: these are definitions.
-use Rattle.std.specs.Prelude.{ℕ, ◌+◌, ◌*◌, ◌-◌, cond, ◌&&◌, List, [], ◌∷◌, leb}
-use Rattle.std.proofs.Math.Option.{Option, some, none}
-use Rattle.nav.specs.declared.scalars.Integer.{Integer}
-use Rattle.nav.specs.declared.scalars.Integer.TheVariants.{Is, Not}
+use Rattle.std.specs.Prelude.{ℕ, ◌+◌, ◌*◌, ◌-◌, cond, ◌&&◌, List, [], ◌∷◌, leb, Option, Some, None}
+use Rattle.std.proofs.Math.Option as logic
+use Rattle.std.proofs.Math.Option.{some, none}
 use Rattle.json_text.specs.Tree.{Json}
 use Rattle.nav.specs.Words.{digits}
 
@@ -13,20 +12,20 @@ decimal n [] = n
 decimal n (d ∷ ds) = decimal (10 * n + (d - 0x30)) ds
 
 -- the integer that a spelling is
-unfoldable pub spelled : List ℕ → Integer
-spelled ds = cond (digits ds && leb (decimal 0 ds) 4294967295) (Is (decimal 0 ds)) Not
+unfoldable pub spelled : List ℕ → Option ℕ
+spelled ds = cond (digits ds && leb (decimal 0 ds) 4294967295) (Some (decimal 0 ds)) None
 
 -- the integer that a tree is
-unfoldable pub integer_of : Json → Integer
-integer_of Json.null = Not
-integer_of Json.true = Not
-integer_of Json.false = Not
+unfoldable pub integer_of : Json → Option ℕ
+integer_of Json.null = None
+integer_of Json.true = None
+integer_of Json.false = None
 integer_of (Json.number ds) = spelled ds
-integer_of (Json.string cs) = Not
-integer_of (Json.array js) = Not
-integer_of (Json.object ms) = Not
+integer_of (Json.string cs) = None
+integer_of (Json.array js) = None
+integer_of (Json.object ms) = None
 
 -- the integer that stands at a place, if anything does
-abbrev pub integer_at : Option Json → Integer
-integer_at none = Not
+abbrev pub integer_at : logic.Option Json → Option ℕ
+integer_at none = None
 integer_at (some j) = integer_of j

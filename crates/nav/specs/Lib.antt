@@ -6,3 +6,4 @@ pub mod Integers
 pub mod Members
 pub mod Gathers
 pub mod MemberSteps
+pub mod Results

@@ -1,11 +1,11 @@
 -- The members of an object: by name in the tree, and at which places of the text.
 -- A place is 0 where there is none: no value of a member stands at the first byte.
 -- Assumes nothing: these are definitions.
-use Rattle.std.specs.Prelude.{ℕ, zero, suc, ◌≤◌, ◌<◌, cond, List, [], ◌∷◌, eqb, length, drop}
+use Rattle.std.specs.Prelude.{ℕ, zero, suc, ◌≤◌, ◌<◌, cond, List, [], ◌∷◌, eqb, length, drop, map}
+use Rattle.std.specs.List.{AllZip}
 use Rattle.std.proofs.Math.Option.{Option, some, none}
 use Rattle.nav.specs.declared.Step.{Step}
 use Rattle.nav.specs.declared.Step.TheVariants.{More, End, Bad}
-use Rattle.nav.specs.declared.members.Places.{Places}
 use Rattle.json_text.specs.Tree.{Json, Fields, depth}
 use Rattle.json_text.specs.Grammar.{IsWs, Name, Value}
 use Rattle.json_text.specs.Faults.{Not}
@@ -71,21 +71,14 @@ found_of s k w = onward (λ v. find_of (length w) s k v) s (open_of 0x7b 0x7d s 
 unfoldable pub past_of : List ℕ → List ℕ → ℕ
 past_of s w = given 0 (λ x. given 0 (λ ms. place_of s x.1) (object_of (some x.0))) (value_at 32 w)
 
--- eight searches in one object, and the place past it
-unfoldable pub gather_of : List ℕ → List ℕ → List ℕ → List ℕ → List ℕ → List ℕ → List ℕ → List ℕ → List ℕ → List ℕ →
-    Places
-gather_of s w ka kb kc kd ke kf kg kh =
-    record {
-      a = found_of s ka w;
-      b = found_of s kb w;
-      c = found_of s kc w;
-      d = found_of s kd w;
-      e = found_of s ke w;
-      f = found_of s kf w;
-      g = found_of s kg w;
-      h = found_of s kh w;
-      past = past_of s w;
-    }
+-- the places of the words' members in their order, and the place past the object
+pub record Places : Type 0 where
+  pub places : List ℕ
+  pub past : ℕ
+
+-- a search for each of the words ks in one object, and the place past it
+unfoldable pub gather_of : List ℕ → List ℕ → List (List ℕ) → Places
+gather_of s w ks = record { places = map (λ k. found_of s k w) ks; past = past_of s w }
 
 -- What these places mean.
 
@@ -106,16 +99,9 @@ pub data PastTo (s w : List ℕ) : ℕ → Type 0 where
       depth (Json.object ms) ≤ 32 → PastTo s w q
   past_none : ((ms : Fields) (r : List ℕ) → Value w (Json.object ms) r → depth (Json.object ms) ≤ 32 → ⊥) → PastTo s w 0
 
--- the eight places, and the place past the object
-pub record Gathered (s w ka kb kc kd ke kf kg kh : List ℕ) (r : Places) : Type 0 where
-  pub fa : FoundTo s w ka r.a
-  pub fb : FoundTo s w kb r.b
-  pub fc : FoundTo s w kc r.c
-  pub fd : FoundTo s w kd r.d
-  pub fe : FoundTo s w ke r.e
-  pub ff : FoundTo s w kf r.f
-  pub fg : FoundTo s w kg r.g
-  pub fh : FoundTo s w kh r.h
+-- the place of each word's member, and the place past the object
+pub record Gathered (s w : List ℕ) (ks : List (List ℕ)) (r : Places) : Type 0 where
+  pub found : AllZip (FoundTo s w) ks r.places
   pub end : PastTo s w r.past
 
 -- the place of a member, where the tree has o for it
@@ -123,13 +109,6 @@ pub data FoundTree (s : List ℕ) : Option Json → ℕ → Type 0 where
   tree_stands : {q : ℕ} {j : Json} → 0 < q → q ≤ length s → Stands (drop q s) j → FoundTree s (some j) q
   tree_absent : FoundTree s none 0
 
--- the eight places, where the tree is j
-pub record GatheredTree (s : List ℕ) (j : Json) (ka kb kc kd ke kf kg kh : List ℕ) (r : Places) : Type 0 where
-  pub fa : FoundTree s (field_of ka j) r.a
-  pub fb : FoundTree s (field_of kb j) r.b
-  pub fc : FoundTree s (field_of kc j) r.c
-  pub fd : FoundTree s (field_of kd j) r.d
-  pub fe : FoundTree s (field_of ke j) r.e
-  pub ff : FoundTree s (field_of kf j) r.f
-  pub fg : FoundTree s (field_of kg j) r.g
-  pub fh : FoundTree s (field_of kh j) r.h
+-- the place of each word's member, where the tree is j
+pub record GatheredTree (s : List ℕ) (j : Json) (ks : List (List ℕ)) (r : Places) : Type 0 where
+  pub found : AllZip (λ k p. FoundTree s (field_of k j) p) ks r.places

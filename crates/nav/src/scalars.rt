@@ -1,56 +1,35 @@
 // Strings and integers at places.
-ghost use Rattle.std.specs.Prelude.{◌≡◌, ◌≤◌, ◌-◌, length, drop, take};
+ghost use Rattle.std.specs.Prelude.{◌≡◌, drop};
 ghost use Rattle.json_text.specs.Parse.{tree_at};
 ghost use Rattle.json_text.specs.Scans.{Tells};
 ghost use Rattle.nav.specs.Words.{plains, Quoted, is_string_at, is_version_at};
 ghost use Rattle.nav.specs.Integers.{spelled, integer_at};
 
 use crate::front;
-use json_text::{Scan, digits_at, is_plain, literal_at, value_at};
-
-// An integer of document 01, or none.
-#[derive(Clone, Copy)]
-pub enum Integer {
-    Is(u32),
-    Not,
-}
+use json_text::{digits_at, is_plain, literal_at, value_at};
 
 // Whether `word` has no byte that a string spells with an escape.
 pub(crate) fn is_word(word: &[u8]) -> bool
     ensures { result ≡ plains word.now }
 {
-    let mut k = 0;
-    while k < word.len() {
-        if is_plain(word[k] as usize) {
-            k += 1;
-        } else {
-            return false;
-        }
-    }
-    true
+    word.iter().all(|b| is_plain(usize::from(*b)))
 }
 
 // Whether a string at `at` starts the text there, and is the plain word `word`.
 pub(crate) fn quotes(s: &[u8], at: usize, word: &[u8]) -> bool
     ensures { Tells (Quoted word.now (drop at s.now)) result }
 {
-    if front(s, at) == 0x22 {
-        let inside = at + 1;
-        match literal_at(s, inside, word) {
-            Scan::Past(p) => {
-                if front(s, p) == 0x22 {
-                    return is_word(word);
-                }
-                return false;
-            }
-            Scan::Broke(p) => return false,
-            Scan::Deep(p) => return false,
-        }
+    if front(s, at) != Some(b'"') {
+        return false;
     }
-    false
+    let Ok(p) = literal_at(s, at + 1, word) else {
+        return false;
+    };
+    front(s, p) == Some(b'"') && is_word(word)
 }
 
 // Whether the value at `at` is the string `word`. A spelling with an escape never is.
+#[tactic(auto, using(crate::proofs::Spellings::string_is))]
 pub fn string_is(s: &[u8], at: usize, word: &[u8]) -> bool
     ensures { result ≡ is_string_at word.now (tree_at 32 (drop at s.now)) }
 {
@@ -61,49 +40,33 @@ pub fn string_is(s: &[u8], at: usize, word: &[u8]) -> bool
 pub fn is_version(s: &[u8], at: usize) -> bool
     ensures { result ≡ is_version_at (tree_at 32 (drop at s.now)) }
 {
-    match literal_at(s, at, b"\"2.") {
-        Scan::Past(p) => match digits_at(s, p) {
-            Scan::Past(q) => front(s, q) == 0x22,
-            Scan::Broke(q) => false,
-            Scan::Deep(q) => false,
-        },
-        Scan::Broke(p) => false,
-        Scan::Deep(p) => false,
+    let Ok(p) = literal_at(s, at, b"\"2.") else {
+        return false;
+    };
+    match digits_at(s, p) {
+        Ok(q) => front(s, q) == Some(b'"'),
+        Err(_) => false,
     }
 }
 
-// The integer that the bytes from `at` to `end` spell.
-pub(crate) fn integer_from(s: &[u8], at: usize, end: usize) -> Integer
-    requires { (at ≤ end) × (end ≤ length s.now) }
-    ensures { result ≡ spelled (take (end - at) (drop at s.now)) }
+// The integer of document 01 that the bytes spell, if they do.
+pub(crate) fn integer_from(bytes: &[u8]) -> Option<u32>
+    ensures { result ≡ spelled bytes.now }
 {
-    let mut n: u64 = 0;
-    let mut i = at;
-    while i < end {
-        let d = s[i] as u64;
-        if d < 0x30 {
-            return Integer::Not;
+    let mut n: u32 = 0;
+    for b in bytes {
+        if !b.is_ascii_digit() {
+            return None;
         }
-        if 0x39 < d {
-            return Integer::Not;
-        }
-        let m = 10 * n + (d - 0x30);
-        if 4294967295 < m {
-            return Integer::Not;
-        }
-        n = m;
-        i += 1;
+        n = n.checked_mul(10)?.checked_add(u32::from(*b - b'0'))?;
     }
-    Integer::Is(n as u32)
+    Some(n)
 }
 
-// The integer at `at`.
-pub fn integer_at(s: &[u8], at: usize) -> Integer
+// The integer of document 01 at `at`, if one stands there.
+pub fn integer_at(s: &[u8], at: usize) -> Option<u32>
     ensures { result ≡ integer_at (tree_at 32 (drop at s.now)) }
 {
-    match value_at(s, at, 32) {
-        Scan::Past(p) => integer_from(s, at, p),
-        Scan::Broke(p) => Integer::Not,
-        Scan::Deep(p) => Integer::Not,
-    }
+    let past = value_at(s, at, 32).ok()?;
+    integer_from(&s[at..past])
 }

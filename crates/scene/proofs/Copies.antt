@@ -1,12 +1,11 @@
 -- One field of each record, copied into a list of numbers.
 -- Assumes nothing.
-use Prim.Native.Nat.{ℕ, zero, suc, ◌+◌, ◌<◌, ◌≤◌}
+use Prim.Native.Nat.{ℕ, zero, suc, ◌+◌, ◌<◌}
 use mathlib.Core.Path.{◌≡◌, refl, ap, ◌∙◌}
-use mathlib.Core.List.{List, [], ◌∷◌, ◌++◌, map, append-nil}
+use mathlib.Core.List.{List, [], ◌∷◌, ◌++◌, map}
 use native.Mathlib.Numerals.{add-one}
 use native.Mathlib.Omega.{arith}
-use lib.ListN.{get_or, set, length, take, drop, drop_of_length-le}
-use lib.Seq.{take_all}
+use lib.ListN.{get_or, set, length, take, drop}
 
 -- f of the first i records, the numbers of d from there on
 abbrev pub copied : {A : Type 0} → (A → ℕ) → List A → List ℕ → ℕ → List ℕ
@@ -24,8 +23,3 @@ set_next f (x ∷ records) (y ∷ d) r (suc i) h e =
 pub copied_more : {A : Type 0} (f : A → ℕ) (records : List A) (d : List ℕ) (r : A) (i : ℕ) → i < length records
     → length d ≡ length records → set (copied f records d i) i (f (get_or records i r)) ≡ copied f records d (i + 1)
 copied_more f records d r i h e = set_next f records d r i h e ∙ rw (add-one i) refl
-
--- all records
-pub copied_all : {A : Type 0} (f : A → ℕ) (records : List A) (d : List ℕ) (i : ℕ) → length records ≤ i → length d ≤ i
-    → copied f records d i ≡ map f records
-copied_all f records d i h e = rw (take_all i records h, drop_of_length-le d e) (append-nil (map f records))

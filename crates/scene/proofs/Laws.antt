@@ -9,9 +9,8 @@ use native.Mathlib.Numerals.{add-one}
 use native.Mathlib.Omega.{arith}
 use lib.ListN.{get_or, set, length, take, drop, length-append, length-take, length-drop, take-append-drop}
 use lib.Seq.{set_split, take_at, drop_at, drop-drop, take-suc, take-length, get_or-drop}
-use Rattle.graph.specs.Order.{in_turn, preorder}
-use Rattle.graph.proofs.Placing.{packed_at}
-use Rattle.scene.specs.Steps.{kids_in, Linked, written}
+use Rattle.graph.specs.Order.{in_turn, preorder, scene_order}
+use Rattle.scene.specs.Steps.{written}
 
 -- nothing written
 pub written_nil : (d : List ℕ) (at : ℕ) → written d at [] ≡ d
@@ -62,6 +61,11 @@ turn_one : (f : ℕ → List ℕ) (x : ℕ) → in_turn f (x ∷ []) ≡ f x
 unfolding in_turn
 turn_one f x = append-nil (f x)
 
+-- no entries, nothing
+pub none_yet : (f : ℕ → List ℕ) (entries : List ℕ) (s : ℕ) → so_far f entries s 0 ≡ []
+unfolding so_far
+none_yet f entries s = refl
+
 -- all of n entries in turn
 pub all_so_far : (f : ℕ → List ℕ) (entries : List ℕ) (s n : ℕ) → s + n ≤ length entries
     → so_far f entries s n ≡ in_turn f (take n (drop s entries))
@@ -81,6 +85,11 @@ all_so_far f entries s (suc n) h =
 pub whole_so_far : (f : ℕ → List ℕ) (entries : List ℕ) → so_far f entries 0 (length entries) ≡ in_turn f entries
 whole_so_far f entries =
     all_so_far f entries 0 (length entries) (omega arith) ∙ rw (take-length entries) refl
+
+-- the nodes of a list in turn, once all are passed
+pub all_found : (kids : List (List ℕ)) (left : ℕ) (nodes : List ℕ) (i : ℕ) → i ≡ length nodes
+    → so_far (preorder kids left) nodes 0 i ≡ scene_order kids left nodes
+all_found kids left nodes i e = rw e (whole_so_far (preorder kids left) nodes)
 
 -- the first i entries fit where all do
 pub so_far_le : (f : ℕ → List ℕ) (ch : List ℕ) (s i j : ℕ) → i ≤ j → length (so_far f ch s i) ≤ length (so_far f ch s j)
@@ -119,48 +128,64 @@ pub root_length : (f : ℕ → List ℕ) (roots : List ℕ) (i : ℕ)
 root_length f roots i =
     next_length f roots 0 i ∙ ap (λ (k : ℕ). length (so_far f roots 0 i) + length (f (get_or roots k 0))) (zero-add i)
 
-pub root_written : (f : ℕ → List ℕ) (roots d list : List ℕ) (i p : ℕ) → length (so_far f roots 0 (i + 1)) ≤ length d
-    → p ≡ length (so_far f roots 0 i) → list ≡ written d 0 (so_far f roots 0 i)
-    → written list p (f (get_or roots i 0)) ≡ written d 0 (so_far f roots 0 (i + 1))
-root_written f roots d list i p h ep el =
-    ap (λ (k : ℕ). written list p (f (get_or roots k 0))) (sym (zero-add i))
-    ∙ next_written f roots d list 0 0 i p (omega arith) (omega arith) el
+pub from_written : (f : ℕ → List ℕ) (nodes d list : List ℕ) (at i p : ℕ)
+    → at + length (so_far f nodes 0 (i + 1)) ≤ length d → p ≡ at + length (so_far f nodes 0 i)
+    → list ≡ written d at (so_far f nodes 0 i)
+    → written list p (f (get_or nodes i 0)) ≡ written d at (so_far f nodes 0 (i + 1))
+from_written f nodes d list at i p h ep el =
+    ap (λ (k : ℕ). written list p (f (get_or nodes k 0))) (sym (zero-add i))
+    ∙ next_written f nodes d list 0 at i p h ep el
 
--- One call: at the node `node` with `left` levels.
-module _ (st ln ch : List ℕ) (node left : ℕ) (linked : Linked st ln ch) (there : node < length st) (ok : 0 < left) where
-  abbrev pub deeper : ℕ → List ℕ
-  deeper = preorder (kids_in st ln ch) (left - 1)
+-- no levels, no nodes
+none_in : (kids : List (List ℕ)) (nodes : List ℕ) → scene_order kids 0 nodes ≡ []
+unfolding in_turn preorder
+none_in kids [] = refl
+none_in kids (x ∷ nodes) = none_in kids nodes
 
+pub no_levels : (kids : List (List ℕ)) (left : ℕ) (nodes : List ℕ) → left ≡ 0 → scene_order kids left nodes ≡ []
+no_levels kids left nodes e = rw e (none_in kids nodes)
+
+-- a node, then what is under its children
+unrolled : (kids : List (List ℕ)) (node k : ℕ) → 0 < k
+    → preorder kids k node ≡ node ∷ scene_order kids (k - 1) (get_or kids node [])
+unfolding preorder
+unrolled kids node zero h = absurd (omega arith)
+unrolled kids node (suc k) h = let e : suc k - 1 ≡ k = omega arith in rw e
+
+-- A pass over a list of nodes, some levels deep.
+module _ (kids : List (List ℕ)) (left : ℕ) (deep : 0 < left) (nodes : List ℕ) where
+  -- what the first i nodes give
+  abbrev pub found : ℕ → List ℕ
+  found i = so_far (preorder kids left) nodes 0 i
+
+  -- what is under node i of the list
   abbrev pub under : ℕ → List ℕ
-  under i = so_far deeper ch (get_or st node 0) i
+  under i = scene_order kids (left - 1) (get_or kids (get_or nodes i 0) [])
 
-  unrolled : (k : ℕ) → 0 < k
-      → preorder (kids_in st ln ch) k node
-      ≡ node ∷ in_turn (preorder (kids_in st ln ch) (k - 1)) (get_or (kids_in st ln ch) node [])
-  unfolding preorder
-  unrolled zero h = absurd (omega arith)
-  unrolled (suc k) h = let e : suc k - 1 ≡ k = omega arith in rw e
+  one : (i : ℕ) → preorder kids left (get_or nodes i 0) ≡ get_or nodes i 0 ∷ under i
+  one i = unrolled kids (get_or nodes i 0) left deep
 
-  -- the node, then what is under all its children
-  pub step : preorder (kids_in st ln ch) left node ≡ node ∷ under (get_or ln node 0)
-  step =
-      unrolled left ok
-      ∙ rw (
-        packed_at st ln ch (length st) node there,
-        all_so_far deeper ch (get_or st node 0) (get_or ln node 0) (linked.within node there),
-      ) refl
+  -- one node more, and what is under it
+  pub one_more : (i : ℕ) → length (found (i + 1)) ≡ length (found i) + 1 + length (under i)
+  one_more i =
+      let e : length (preorder kids left (get_or nodes i 0)) ≡ 1 + length (under i) =
+      ap length (one i) ∙ omega arith in
+      omega (arith, root_length (preorder kids left) nodes i, e)
 
-  -- Into the list d from `at` on.
-  module _ (d : List ℕ) (at : ℕ) (room : at + length (preorder (kids_in st ln ch) left node) ≤ length d) where
-    pub all_room : at + 1 + length (under (get_or ln node 0)) ≤ length d
-    all_room = let h = rw step at room in omega arith
+  -- the first i nodes give no more than all
+  pub no_more : (i : ℕ) → i ≤ length nodes → length (found i) ≤ length (scene_order kids left nodes)
+  no_more i h =
+      omega (
+        arith,
+        so_far_le (preorder kids left) nodes 0 i (length nodes) h,
+        ap length (whole_so_far (preorder kids left) nodes),
+      )
 
-    -- there is room for child i
-    pub child_room : (i : ℕ) → i < get_or ln node 0 → at + 1 + length (under (i + 1)) ≤ length d
-    child_room i h =
-        omega (arith, all_room, so_far_le deeper ch (get_or st node 0) (i + 1) (get_or ln node 0) (omega arith))
-
-    -- the node stored and its children written
-    pub done : written (set d at node) (at + 1) (under (get_or ln node 0))
-        ≡ written d at (preorder (kids_in st ln ch) left node)
-    done = rw step (set_then d at node (under (get_or ln node 0)) all_room)
+  -- one node more stored, and what is under it written
+  pub one_written : (d list : List ℕ) (at i p : ℕ) → at + length (found (i + 1)) ≤ length d
+      → p ≡ at + length (found i) → list ≡ written d at (found i) → length list ≡ length d
+      → written (set list p (get_or nodes i 0)) (p + 1) (under i) ≡ written d at (found (i + 1))
+  one_written d list at i p h ep el en =
+      set_then list p (get_or nodes i 0) (under i) (omega (arith, h, ep, en, one_more i))
+      ∙ ap (written list p) (sym (one i))
+      ∙ from_written (preorder kids left) nodes d list at i p h ep el

@@ -6,3 +6,5 @@ pub mod Unfits
 pub mod Founds
 pub mod Exact
 pub mod Packed
+pub mod Unders
+pub mod Answered

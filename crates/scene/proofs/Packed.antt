@@ -6,8 +6,7 @@ use mathlib.Core.List.{List}
 use lib.Dec.{ltb}
 use Rattle.laws.proofs.Tests.{by_test}
 use Rattle.tables.specs.declared.Tables.{Tables}
-use Rattle.scene.specs.declared.places.NodePlaces.{NodePlaces}
-use Rattle.scene.specs.declared.places.ScenePlaces.{ScenePlaces}
+use Rattle.graph.specs.declared.packed.Packed.{Packed}
 use Rattle.scene.specs.Lists.{starts_of, lengths_of}
 use Rattle.scene.specs.Walk.{walk_unfit, walk_of}
 use Rattle.scene.specs.Steps.{walk_lists, walk_packed}
@@ -22,12 +21,22 @@ unfolding walk_of walk_unfit walk_lists walk_packed
 walk_packed_lem t scene list =
     by_test (ltb 1 t.buffers || ltb 64 t.views || ltb 128 t.accessors) (λ e. rw e) (λ e. rw e)
 
+-- packed lists are these
+pub record Packs (packed : Packed) (st ln en : List ℕ) (n : ℕ) : Type 0 where
+  pub starts : packed.starts.now ≡ st
+  pub lengths : packed.lengths.now ≡ ln
+  pub entries : packed.entries.now ≡ en
+  pub count : packed.count ≡ n
+
 -- the same, where the places were copied out
-pub places_packed : (t : Tables) (nodes : NodePlaces) (scenes : ScenePlaces)
-    → nodes ≡ record { starts = starts_of t.node_lists; lengths = lengths_of t.node_lists }
-    → scenes ≡ record { starts = starts_of t.scene_lists; lengths = lengths_of t.scene_lists }
+pub places_packed : (t : Tables) (nodes scenes : Packed)
+    → Packs nodes (starts_of t.node_lists) (lengths_of t.node_lists) t.children t.nodes
+    → Packs scenes (starts_of t.scene_lists) (lengths_of t.scene_lists) t.roots t.scenes
     → (scene : ℕ) (list : List ℕ)
     → walk_packed (ltb 1 t.buffers || ltb 64 t.views || ltb 128 t.accessors)
-    nodes.starts nodes.lengths t.children t.nodes scenes.starts scenes.lengths t.roots t.scenes scene list
+    nodes.starts.now nodes.lengths.now nodes.entries.now nodes.count
+    scenes.starts.now scenes.lengths.now scenes.entries.now scenes.count scene list
     ≡ walk_of t scene list
-places_packed t nodes scenes n s scene list = rw (n, s) (walk_packed_lem t scene list)
+places_packed t nodes scenes n s scene list =
+    rw (n.starts, n.lengths, n.entries, n.count, s.starts, s.lengths, s.entries, s.count)
+    (walk_packed_lem t scene list)

@@ -2,19 +2,47 @@
 #![tactic(auto)]
 
 ghost use Rattle.std.specs.Prelude.{◌≡◌};
+ghost use Rattle.scene.specs.Results.{number_of, walked_of};
 ghost use Rattle.scene.specs.Walk.{walk_of};
 
 use crate::lists::walk_packed;
-use crate::places::{node_places, scene_places};
+use crate::places::Places;
 use tables::Tables;
 
-pub mod lists;
-pub mod places;
-pub mod roots;
-pub mod size;
-pub mod subtree;
+pub mod lists; // lists.rt: the walk on packed lists
+mod places; // places.rt: packed lists of the tables
+mod roots; // roots.rt: the roots of a scene
+mod size; // size.rt: how many nodes are found
+mod subtree; // subtree.rt: the nodes written
+mod tree; // tree.rt: lists of children that are all nodes
 
-// The number is 0 where the scene is walked, the count then how many entries of the list were written.
+// Why a scene is not walked.
+#[derive(Clone, Copy, Debug, PartialEq, Eq, Hash)]
+pub enum Refusal {
+    // The scene index is not below the count or 8.
+    NoScene,
+    // The list is shorter than the nodes that are found.
+    NoRoom,
+    // A count or a list passes its capacity, or one of rules 41 to 46 is broken.
+    Unfit,
+}
+
+impl Refusal {
+    // The refusal's number: 64, 65 or 66.
+    pub fn number(self) -> u32
+        ensures { result ≡ number_of self }
+    {
+        match self {
+            Refusal::NoScene => 64,
+            Refusal::NoRoom => 65,
+            Refusal::Unfit => 66,
+        }
+    }
+}
+
+// A walk's answer as C has it: the number is 0 where the scene is walked, the count then how many entries of the list
+// were written.
+// Stays: the C interface and the definition `walk_of` have the number and the count.
 #[repr(C)]
 #[derive(Clone, Copy)]
 pub struct Walked {
@@ -22,32 +50,32 @@ pub struct Walked {
     pub count: usize,
 }
 
-// Refused, the list is unchanged; entries past the count stay.
-pub fn walk(t: Tables, scene: u32, list: &mut [u16]) -> Walked
-    ensures { (result ≡ (walk_of t scene list.old).walked)
+impl From<Result<usize, Refusal>> for Walked {
+    ghost from_gives = { λ answer walked. walked ≡ walked_of answer };
+
+    fn from(answer: Result<usize, Refusal>) -> Walked {
+        match answer {
+            Ok(count) => Walked { number: 0, count },
+            Err(refusal) => Walked {
+                number: refusal.number(),
+                count: 0,
+            },
+        }
+    }
+}
+
+// How many nodes of the scene were written into the list. Refused, the list is unchanged; entries past the count stay.
+pub fn walk(t: Tables, scene: u32, list: &mut [u16]) -> Result<usize, Refusal>
+    ensures { (walked_of result ≡ (walk_of t scene list.old).walked)
         × (list.new ≡ (walk_of t scene list.old).list) }
 {
     let over = (1 < t.buffers) | (64 < t.views) | (128 < t.accessors);
-    let node_lists = t.node_lists;
-    let nodes = node_places(node_lists);
-    let node_starts = nodes.starts;
-    let node_lengths = nodes.lengths;
-    let children = t.children;
-    let scene_lists = t.scene_lists;
-    let scenes = scene_places(scene_lists);
-    let scene_starts = scenes.starts;
-    let scene_lengths = scenes.lengths;
-    let roots = t.roots;
+    let nodes = Places::from(t.node_lists);
+    let scenes = Places::from(t.scene_lists);
     walk_packed(
         over,
-        &node_starts,
-        &node_lengths,
-        &children,
-        t.nodes as usize,
-        &scene_starts,
-        &scene_lengths,
-        &roots,
-        t.scenes as usize,
+        nodes.packed(&t.children, t.nodes as usize),
+        scenes.packed(&t.roots, t.scenes as usize),
         scene as usize,
         list,
     )

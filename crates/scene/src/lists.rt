@@ -1,107 +1,64 @@
 // The walk on packed lists: 64, then 66, then 65.
 ghost use Rattle.std.specs.Prelude.{◌≡◌, ◌<◌};
+ghost use Rattle.scene.specs.Results.{walked_of};
 ghost use Rattle.scene.specs.Steps.{walk_lists, walk_packed};
 
-use crate::Walked;
-use crate::roots::walk_roots;
-use graph::packed::is_refused;
+use crate::Refusal;
+use crate::tree::{Nodes, Tree};
+use graph::packed::{Packed, is_refused};
 
-// The children lists of so many nodes, the root lists of so many scenes, and one of these scenes.
-fn walk_lists(
-    node_starts: &[u16],
-    node_lengths: &[u16],
-    children: &[u16],
-    nodes: usize,
-    scene_starts: &[u16],
-    scene_lengths: &[u16],
-    roots: &[u16],
-    scenes: usize,
+// The children lists of the nodes, the root lists of the scenes, and one of these scenes.
+#[tactic(auto, unfolding(crate::specs::Steps::walk_lists))]
+fn walk_lists<'a>(
+    nodes: Packed<'a>,
+    scenes: Packed<'a>,
     scene: usize,
     list: &mut [u16],
-) -> Walked
-    requires { scene < scenes }
-    ensures { (result ≡ (walk_lists
-        node_starts.now node_lengths.now children.now nodes
-        scene_starts.now scene_lengths.now roots.now scenes
-        scene list.old).walked)
-        × (list.new ≡ (walk_lists
-        node_starts.now node_lengths.now children.now nodes
-        scene_starts.now scene_lengths.now roots.now scenes
-        scene list.old).list) }
+) -> Result<usize, Refusal>
+    requires { scene < scenes.count }
+    ensures { let walk = walk_lists
+        nodes.entry.starts.now nodes.entry.lengths.now nodes.entry.entries.now nodes.entry.count
+        scenes.entry.starts.now scenes.entry.lengths.now scenes.entry.entries.now scenes.entry.count
+        scene list.old in
+        (walked_of result ≡ walk.walked) × (list.new ≡ walk.list) }
 {
-    let refused = is_refused(
-        node_starts,
-        node_lengths,
-        children,
-        nodes,
-        scene_starts,
-        scene_lengths,
-        roots,
-        scenes,
-    );
-    if refused {
-        return Walked {
-            number: 66,
-            count: 0,
-        };
+    if is_refused(nodes, scenes) {
+        return Err(Refusal::Unfit);
     }
-    let start = scene_starts[scene] as usize;
-    let end = start + (scene_lengths[scene] as usize);
-    walk_roots(
-        &node_starts[..nodes],
-        &node_lengths[..nodes],
-        children,
-        128,
-        &roots[start..end],
-        list,
-    )
+    let tree = Tree {
+        starts: &nodes.starts[..nodes.count],
+        lengths: &nodes.lengths[..nodes.count],
+        children: nodes.entries,
+    };
+    let start = scenes.starts[scene] as usize;
+    let end = start + (scenes.lengths[scene] as usize);
+    let roots = Nodes {
+        tree,
+        list: &scenes.entries[start..end],
+    };
+    roots.walk(128, list)
 }
 
 // The same for any scene number. `over`: one of the counts that are not asked here passes its capacity.
+#[tactic(auto, unfolding(crate::specs::Steps::walk_packed))]
 pub fn walk_packed(
     over: bool,
-    node_starts: &[u16],
-    node_lengths: &[u16],
-    children: &[u16],
-    nodes: usize,
-    scene_starts: &[u16],
-    scene_lengths: &[u16],
-    roots: &[u16],
-    scenes: usize,
+    nodes: Packed,
+    scenes: Packed,
     scene: usize,
     list: &mut [u16],
-) -> Walked
-    ensures { (result ≡ (walk_packed over
-        node_starts.now node_lengths.now children.now nodes
-        scene_starts.now scene_lengths.now roots.now scenes
-        scene list.old).walked)
-        × (list.new ≡ (walk_packed over
-        node_starts.now node_lengths.now children.now nodes
-        scene_starts.now scene_lengths.now roots.now scenes
-        scene list.old).list) }
+) -> Result<usize, Refusal>
+    ensures { let walk = walk_packed over
+        nodes.entry.starts.now nodes.entry.lengths.now nodes.entry.entries.now nodes.entry.count
+        scenes.entry.starts.now scenes.entry.lengths.now scenes.entry.entries.now scenes.entry.count
+        scene list.old in
+        (walked_of result ≡ walk.walked) × (list.new ≡ walk.list) }
 {
-    if (scenes <= scene) | (8 <= scene) {
-        return Walked {
-            number: 64,
-            count: 0,
-        };
+    if (scenes.count <= scene) | (8 <= scene) {
+        return Err(Refusal::NoScene);
     }
     if over {
-        return Walked {
-            number: 66,
-            count: 0,
-        };
+        return Err(Refusal::Unfit);
     }
-    walk_lists(
-        node_starts,
-        node_lengths,
-        children,
-        nodes,
-        scene_starts,
-        scene_lengths,
-        roots,
-        scenes,
-        scene,
-        list,
-    )
+    walk_lists(nodes, scenes, scene, list)
 }

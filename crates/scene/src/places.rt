@@ -2,48 +2,43 @@
 ghost use Rattle.std.specs.Prelude.{◌≡◌};
 ghost use Rattle.scene.specs.Lists.{starts_of, lengths_of};
 
+use graph::packed::Packed;
 use tables::List;
 
+// Where each list starts, and how long it is.
+// Stays: two arrays, since the definitions `packed_lists`, `misplaced` and `walk_packed`, and the theorems on them, have
+// the starts and the lengths as two lists.
 #[derive(Clone, Copy)]
-pub struct NodePlaces {
-    pub starts: [u16; 128],
-    pub lengths: [u16; 128],
+pub(crate) struct Places<const N: usize> {
+    pub starts: [u16; N],
+    pub lengths: [u16; N],
 }
 
-#[derive(Clone, Copy)]
-pub struct ScenePlaces {
-    pub starts: [u16; 8],
-    pub lengths: [u16; 8],
-}
+impl<const N: usize> From<[List; N]> for Places<N> {
+    ghost from_gives = { λ lists places. places ≡ record { starts = starts_of lists; lengths = lengths_of lists } };
 
-// Where the nodes' lists of children start, and how long they are.
-pub(crate) fn node_places(lists: [List; 128]) -> NodePlaces
-    ensures { result ≡ record { starts = starts_of lists; lengths = lengths_of lists } }
-{
-    let mut starts = [0u16; 128];
-    let mut lengths = [0u16; 128];
-    let mut i: usize = 0;
-    while i < 128 {
-        let list = lists[i];
-        starts[i] = list.start;
-        lengths[i] = list.length;
-        i += 1;
+    fn from(lists: [List; N]) -> Places<N> {
+        let mut starts = [0u16; N];
+        let mut lengths = [0u16; N];
+        for (i, list) in lists.iter().enumerate() {
+            starts[i] = list.start;
+            lengths[i] = list.length;
+        }
+        Places { starts, lengths }
     }
-    NodePlaces { starts, lengths }
 }
 
-// Where the scenes' lists of roots start, and how long they are.
-pub(crate) fn scene_places(lists: [List; 8]) -> ScenePlaces
-    ensures { result ≡ record { starts = starts_of lists; lengths = lengths_of lists } }
-{
-    let mut starts = [0u16; 8];
-    let mut lengths = [0u16; 8];
-    let mut i: usize = 0;
-    while i < 8 {
-        let list = lists[i];
-        starts[i] = list.start;
-        lengths[i] = list.length;
-        i += 1;
+impl<const N: usize> Places<N> {
+    // So many lists of these places, packed in the entries.
+    pub(crate) fn packed<'a>(&'a self, entries: &'a [u16], count: usize) -> Packed<'a>
+        ensures { (result.starts.now ≡ self.now.starts) × (result.lengths.now ≡ self.now.lengths)
+            × (result.entries.now ≡ entries.now) × (result.count ≡ count) }
+    {
+        Packed {
+            starts: &self.starts,
+            lengths: &self.lengths,
+            entries,
+            count,
+        }
     }
-    ScenePlaces { starts, lengths }
 }

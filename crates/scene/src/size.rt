@@ -1,42 +1,40 @@
-// How many a node and all under it are.
-ghost use Rattle.std.specs.Prelude.{◌≡◌, min, ◌<◌, length};
-ghost use Rattle.graph.specs.Order.{preorder};
-ghost use Rattle.scene.specs.Steps.{kids_in, Linked};
+// How many nodes a walk finds.
+ghost use Rattle.std.specs.Prelude.{◌≡◌, ◌<◌, min, [], get_or, length};
+ghost use Rattle.scene.specs.Trees.{kids_of_tree, order_from};
 
-// How many nodes `subtree` would write, but no more than cap.
-pub(crate) fn subtree_size(
-    starts: &[u16],
-    lengths: &[u16],
-    children: &[u16],
-    node: u16,
-    left: u32,
-    cap: usize,
-) -> usize
-    requires linked { Linked starts.now lengths.now children.now }
-    requires node_in_bounds { node < length starts.now }
-    ensures { result ≡ min cap
-        (length (preorder (kids_in starts.now lengths.now children.now) left node)) }
-{
-    if left == 0 {
-        return 0;
+use crate::tree::Nodes;
+
+impl<'a> Nodes<'a> {
+    // The children of a node.
+    pub(crate) fn children_of(&self, node: u16) -> Nodes<'a>
+        requires { node < length self.now.tree.starts.now }
+        ensures { (result.tree ≡ self.now.tree)
+            × (result.list.now ≡ get_or (kids_of_tree self.now.tree) node []) }
+    {
+        let tree = self.tree;
+        let start = tree.starts[node as usize] as usize;
+        let end = start + (tree.lengths[node as usize] as usize);
+        Nodes {
+            tree,
+            list: &tree.children[start..end],
+        }
     }
-    if cap == 0 {
-        return 0;
+
+    // How many nodes `write` would write, but no more than cap.
+    #[tactic(auto, using(crate::proofs::Unders::walking))]
+    pub(crate) fn size(&self, left: u32, cap: usize) -> usize
+        ensures { result ≡ min cap (length (order_from self.now left)) }
+    {
+        if left == 0 {
+            return 0;
+        }
+        let mut count: usize = 0;
+        for node in self.list {
+            if count == cap {
+                return cap;
+            }
+            count += 1 + self.children_of(*node).size(left - 1, cap - count - 1);
+        }
+        count
     }
-    let start = starts[node as usize] as usize;
-    let n = lengths[node as usize] as usize;
-    let mut count: usize = 1;
-    let mut i: usize = 0;
-    while i < n {
-        count += subtree_size(
-            starts,
-            lengths,
-            children,
-            children[start + i],
-            left - 1,
-            cap - count,
-        );
-        i += 1;
-    }
-    count
 }

@@ -1,46 +1,26 @@
-// A node and all under it, into a lent list.
-ghost use Rattle.std.specs.Prelude.{◌≡◌, ◌+◌, ◌≤◌, ◌<◌, length};
-ghost use Rattle.graph.specs.Order.{preorder};
-ghost use Rattle.scene.specs.Steps.{kids_in, Linked, written};
+// Nodes and all under them, into a lent list.
+ghost use Rattle.std.specs.Prelude.{◌≡◌, ◌+◌, ◌≤◌, length};
+ghost use Rattle.scene.specs.Steps.{written};
+ghost use Rattle.scene.specs.Trees.{order_from};
 
-// Writes the node, then each child with all under it, from `at` on. The answer is the place after them.
-pub(crate) fn subtree(
-    starts: &[u16],
-    lengths: &[u16],
-    children: &[u16],
-    node: u16,
-    left: u32,
-    list: &mut [u16],
-    at: usize,
-) -> usize
-    requires linked { Linked starts.now lengths.now children.now }
-    requires node_in_bounds { node < length starts.now }
-    requires node_in_bounds_2 { at + length (preorder (kids_in starts.now lengths.now children.now) left node)
-        ≤ length list.old }
-    ensures { (result ≡ at
-        + length (preorder (kids_in starts.now lengths.now children.now) left node))
-        × (list.new ≡ written list.old at
-        (preorder (kids_in starts.now lengths.now children.now) left node)) }
-{
-    if left == 0 {
-        return at;
+use crate::tree::Nodes;
+
+impl<'a> Nodes<'a> {
+    // Writes the nodes in listed order, each with all under it, from `at` on. The answer is the place after them.
+    #[tactic(auto, using(crate::proofs::Unders::walking))]
+    pub(crate) fn write(&self, left: u32, list: &mut [u16], at: usize) -> usize
+        requires { at + length (order_from self.now left) ≤ length list.old }
+        ensures { (result ≡ at + length (order_from self.now left))
+            × (list.new ≡ written list.old at (order_from self.now left)) }
+    {
+        if left == 0 {
+            return at;
+        }
+        let mut next = at;
+        for node in self.list {
+            list[next] = *node;
+            next = self.children_of(*node).write(left - 1, list, next + 1);
+        }
+        next
     }
-    list[at] = node;
-    let start = starts[node as usize] as usize;
-    let n = lengths[node as usize] as usize;
-    let mut next = at + 1;
-    let mut i: usize = 0;
-    while i < n {
-        next = subtree(
-            starts,
-            lengths,
-            children,
-            children[start + i],
-            left - 1,
-            list,
-            next,
-        );
-        i += 1;
-    }
-    next
 }

@@ -1,6 +1,7 @@
 pub mod Records
 pub mod Elements
 pub mod Findings
+pub mod Results
 pub mod Views
 pub mod Accessors
 pub mod Meaning

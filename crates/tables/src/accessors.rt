@@ -1,12 +1,13 @@
 // Rules 25 to 39, of one accessor and of all.
-ghost use Rattle.std.specs.Prelude.{◌≡◌, true, ◌+◌, ◌-◌, ◌*◌};
+ghost use Rattle.std.specs.Prelude.{◌≡◌, true, ◌+◌, ◌-◌, ◌*◌, ◌||◌};
 ghost use Rattle.laws.specs.Search.{first_true};
 ghost use Rattle.tables.specs.Accessors.{effective_stride, alignment, layout_of, uneven, misplaced, passes};
 ghost use Rattle.tables.specs.Accessors.{element_tests, sparse_tests, accessor_fault, accessors_finding};
+ghost use Rattle.tables.specs.Results.{broken_below, outcome_of};
 ghost use Rattle.tables.specs.Stages.{own_layout, place_tests, packed_tests};
 
-use crate::finding::Finding;
-use crate::{Accessor, BufferView, Sparse, finding, layout};
+use crate::finding::{Finding, broken_if, first_of};
+use crate::{Accessor, BufferView, Sparse, layout, view_at};
 
 // How an accessor's elements lie in its view: bytes of a component, of an element and of the last one, the effective
 // stride, what places are multiples of; and the bytes of a sparse index.
@@ -21,6 +22,16 @@ pub struct Layout {
     pub index: u32,
 }
 
+// How many views there are, and those that an accessor names.
+#[derive(Clone, Copy)]
+pub(crate) struct Named {
+    pub views: u32,
+    pub own: BufferView,
+    pub indices: BufferView,
+    pub values: BufferView,
+}
+
+#[tactic(auto, unfolding(crate::specs::Accessors::effective_stride))]
 fn stride_of(v: BufferView, element: u32) -> u32
     ensures { result ≡ effective_stride v element }
 {
@@ -39,6 +50,7 @@ fn alignment_of(size: u32, element_type: u32) -> u32
 }
 
 // The layout without sparse: no bytes of an index.
+#[tactic(auto, using(crate::proofs::Elements::size_is), unfolding(crate::specs::Accessors::layout_of, crate::specs::Elements::last_element_bytes))]
 pub(crate) fn own_layout(a: Accessor, v: BufferView) -> Layout
     ensures { result ≡ own_layout a v }
 {
@@ -56,22 +68,17 @@ pub(crate) fn own_layout(a: Accessor, v: BufferView) -> Layout
     }
 }
 
+#[tactic(auto, unfolding(crate::specs::Accessors::layout_of))]
 pub fn layout_of(a: Accessor, v: BufferView) -> Layout
     ensures { result ≡ layout_of a v }
 {
     let own = own_layout(a, v);
     let index = layout::component_size(a.sparse.indices_type);
-    Layout {
-        component: own.component,
-        element: own.element,
-        last: own.last,
-        stride: own.stride,
-        alignment: own.alignment,
-        index,
-    }
+    Layout { index, ..own }
 }
 
 // The component sizes are tested without a division.
+#[tactic(auto, unfolding(crate::specs::Accessors::uneven))]
 fn is_uneven(x: u64, m: u32) -> bool
     ensures { result ≡ uneven x m }
 {
@@ -84,83 +91,62 @@ fn is_uneven(x: u64, m: u32) -> bool
     if m < 2 {
         return (m == 0) & (x != 0);
     }
-    x % (m as u64) != 0
+    x % u64::from(m) != 0
 }
 
-fn is_misplaced(byte_offset: u32, view_offset: u32, m: u32) -> bool
+#[tactic(auto, unfolding(crate::specs::Accessors::misplaced))]
+pub(crate) fn is_misplaced(byte_offset: u32, view_offset: u32, m: u32) -> bool
     ensures { result ≡ misplaced byte_offset view_offset m }
 {
-    let offset = byte_offset as u64;
+    let offset = u64::from(byte_offset);
     let own = is_uneven(offset, m);
-    let sum = is_uneven(offset + view_offset as u64, m);
+    let sum = is_uneven(offset + u64::from(view_offset), m);
     own | sum
 }
 
-fn less_one(n: u32) -> u32
-    ensures { result ≡ n - 1 }
-{
-    if n == 0 { 0 } else { n - 1 }
-}
-
 // The sum fits 64 bits for all numbers.
+#[tactic(auto, unfolding(crate::specs::Accessors::passes))]
 pub(crate) fn is_past(byte_offset: u32, step: u32, count: u32, last: u32, byte_length: u32) -> bool
     ensures { result ≡ passes byte_offset step count last byte_length }
 {
-    let before = less_one(count);
-    let end = (byte_offset as u64) + (step as u64) * (before as u64) + (last as u64);
-    (byte_length as u64) < end
+    let before = count.saturating_sub(1);
+    let end = u64::from(byte_offset) + u64::from(step) * u64::from(before) + u64::from(last);
+    u64::from(byte_length) < end
 }
 
-// The smallest of the rules 30 to 33 that the elements break in their view, 34 if none.
-fn place_fault(a: Accessor, own: BufferView, l: Layout) -> u32
-    ensures { result ≡ 30 + first_true (place_tests a own l) }
+// The smallest of the rules 30 to 33 that the elements break in their view.
+fn place_fault(a: Accessor, own: BufferView, l: Layout) -> Result<(), u32>
+    ensures { result ≡ broken_below 34 (30 + first_true (place_tests a own l)) }
 {
-    let uneven = is_uneven(l.stride as u64, l.component);
-    if uneven {
-        return 30;
-    }
-    if l.stride < l.element {
-        return 31;
-    }
+    broken_if(is_uneven(u64::from(l.stride), l.component), 30)?;
+    broken_if(l.stride < l.element, 31)?;
     let misplaced = is_misplaced(a.byte_offset, own.byte_offset, l.alignment);
-    if misplaced {
-        return 32;
-    }
+    broken_if(misplaced, 32)?;
     let past = is_past(a.byte_offset, l.stride, a.count, l.last, own.byte_length);
-    if past {
-        return 33;
-    }
-    34
+    broken_if(past, 33)
 }
 
-// The smallest of the rules 25 to 33 that the accessor breaks, 34 if none.
-fn element_fault(views: u32, placed: bool, a: Accessor, own: BufferView, l: Layout) -> u32
-    ensures { result ≡ 25 + first_true (element_tests views placed a own l) }
+// The smallest of the rules 25 to 33 that the accessor breaks.
+fn element_fault(placed: bool, a: Accessor, v: Named, l: Layout) -> Result<(), u32>
+    ensures { result ≡ broken_below 34 (25 + first_true (element_tests v.views placed a v.own l)) }
 {
     let has = a.has_buffer_view;
     let t = a.component_type;
-    if (has & (views <= a.buffer_view)) | (!has & placed) {
-        return 25;
-    }
-    if (t != 5120) & (t != 5121) & (t != 5122) & (t != 5123) & (t != 5125) & (t != 5126) {
-        return 26;
-    }
-    if (a.element_type == 0) | (7 < a.element_type) {
-        return 27;
-    }
-    if a.count == 0 {
-        return 28;
-    }
-    if a.normalized & ((t == 5125) | (t == 5126)) {
-        return 29;
-    }
+    broken_if((has & (v.views <= a.buffer_view)) | (!has & placed), 25)?;
+    let unknown = (t != 5120) & (t != 5121) & (t != 5122) & (t != 5123) & (t != 5125) & (t != 5126);
+    broken_if(unknown, 26)?;
+    broken_if((a.element_type == 0) | (7 < a.element_type), 27)?;
+    broken_if(a.count == 0, 28)?;
+    broken_if(a.normalized & ((t == 5125) | (t == 5126)), 29)?;
     if has {
-        return place_fault(a, own, l);
+        place_fault(a, v.own, l)
+    } else {
+        Ok(())
     }
-    34
 }
 
 // Rules 38 and 39 of the two views of sparse: 38, 39, or 40 if none is broken.
+// Stays: numbers and no Result here and in `sparse_fault`, which each reading takes in: with Results it took 1.2 times as long.
 fn packed_fault(s: Sparse, indices: BufferView, values: BufferView, l: Layout) -> u32
     ensures { result ≡ 38 + first_true (packed_tests s indices values l) }
 {
@@ -217,63 +203,46 @@ pub(crate) fn sparse_fault(
     packed_fault(s, indices, values, l)
 }
 
-// The smallest of the rules 25 to 39 that the accessor breaks, 40 if none. `placed`: byteOffset is there.
-pub(crate) fn accessor_fault(
-    views: u32,
-    placed: bool,
-    a: Accessor,
-    own: BufferView,
-    indices: BufferView,
-    values: BufferView,
-) -> u32
-    ensures { result ≡ accessor_fault views placed a own indices values }
+// The smallest of the rules 25 to 39 that the accessor breaks. `placed`: byteOffset is there.
+pub(crate) fn accessor_fault(placed: bool, a: Accessor, v: Named) -> Result<(), u32>
+    ensures { result ≡ broken_below 40 (accessor_fault v.views placed a v.own v.indices v.values) }
 {
-    let l = layout_of(a, own);
-    let fault = element_fault(views, placed, a, own, l);
-    if fault < 34 {
-        return fault;
-    }
+    let l = layout_of(a, v.own);
+    element_fault(placed, a, v, l)?;
     if a.has_sparse {
-        return sparse_fault(views, a, indices, values, l);
+        let rule = sparse_fault(v.views, a, v.indices, v.values, l);
+        broken_if(rule < 40, rule)
+    } else {
+        Ok(())
     }
-    40
 }
 
 // Rules 25 to 39 over the first count records, of at most 128. `placed`: for each, whether byteOffset is there.
+// Stays: arrays of the tables' capacity with a count, as Tables has them for C; `accessors_finding` cuts a count above it.
 pub fn check_accessors(
     views: u32,
     view_records: [BufferView; 64],
     records: [Accessor; 128],
     placed: [bool; 128],
     count: u32,
-) -> Finding
-    ensures { result ≡ accessors_finding views view_records records placed count }
+) -> Result<(), Finding>
+    ensures { result ≡ outcome_of (accessors_finding views view_records records placed count) }
 {
-    let n = finding::at_most(count, 128) as usize;
-    let mut rule: u32 = 40;
-    let mut item: u32 = 0;
-    let mut i: usize = 0;
-    while i < n {
-        let a = records[i];
-        let own = finding::at_most(a.buffer_view, 63) as usize;
-        let indices = finding::at_most(a.sparse.indices_view, 63) as usize;
-        let values = finding::at_most(a.sparse.values_view, 63) as usize;
-        let fault = accessor_fault(
+    let mut found = Ok(());
+    for i in 0..count.min(128) {
+        let a = records[i as usize];
+        let own = view_at(&view_records, a.buffer_view);
+        let indices = view_at(&view_records, a.sparse.indices_view);
+        let values = view_at(&view_records, a.sparse.values_view);
+        let named = Named {
             views,
-            placed[i],
-            a,
-            view_records[own],
-            view_records[indices],
-            view_records[values],
-        );
-        if fault < rule {
-            rule = fault;
-            item = i as u32;
+            own,
+            indices,
+            values,
+        };
+        if let Err(rule) = accessor_fault(placed[i as usize], a, named) {
+            found = first_of(found, Finding { rule, item: i });
         }
-        i += 1;
     }
-    if rule < 40 {
-        return Finding { rule, item };
-    }
-    Finding { rule: 0, item: 0 }
+    found
 }

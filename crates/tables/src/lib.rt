@@ -2,7 +2,7 @@
 #![tactic(auto)]
 
 ghost use Rattle.std.specs.Prelude.{◌≡◌, get_or};
-ghost use Rattle.tables.specs.Records.{no_view, no_accessor, empty_tables, view_at};
+ghost use Rattle.tables.specs.Records.{no_accessor, empty_tables, view_at};
 
 pub mod accessors;
 pub mod finding;
@@ -10,9 +10,11 @@ pub mod layout;
 pub mod selection;
 pub mod views;
 
-// A member of the JSON text that may be absent has a flag beside it; its number is then 0.
+// A member of the JSON text that may be absent has a flag beside it; its number is then 0. An unused entry of the tables
+// is the default, the record of zeros.
+// Stays: flags beside numbers and no Option, since C gets the record by value (timing_c) and the rules' definitions read its fields.
 #[repr(C)]
-#[derive(Clone, Copy)]
+#[derive(Clone, Copy, Default)]
 pub struct BufferView {
     pub buffer: u32,
     pub byte_offset: u32,
@@ -24,7 +26,7 @@ pub struct BufferView {
 }
 
 #[repr(C)]
-#[derive(Clone, Copy)]
+#[derive(Clone, Copy, Default)]
 pub struct Sparse {
     pub count: u32,
     pub indices_view: u32,
@@ -35,8 +37,9 @@ pub struct Sparse {
 }
 
 // element_type is 1 SCALAR, 2 VEC2, 3 VEC3, 4 VEC4, 5 MAT2, 6 MAT3, 7 MAT4, and 0 none of them.
+// Stays: flags, and numbers for the kinds, as in BufferView: C's records may hold any number, which rules 26 and 27 then refuse.
 #[repr(C)]
-#[derive(Clone, Copy)]
+#[derive(Clone, Copy, Default)]
 pub struct Accessor {
     pub buffer_view: u32,
     pub has_buffer_view: bool,
@@ -51,12 +54,13 @@ pub struct Accessor {
 
 // The place of a node's children or a scene's roots in the packed list. u16 as the packed numbers are.
 #[repr(C)]
-#[derive(Clone, Copy)]
+#[derive(Clone, Copy, Default)]
 pub struct List {
     pub start: u16,
     pub length: u16,
 }
 
+// Stays: counts beside arrays of a fixed size, and a flag beside `scene`: no heap, and C gets the tables by value (timing_c).
 #[repr(C)]
 #[derive(Clone, Copy)]
 pub struct Tables {
@@ -77,74 +81,25 @@ pub struct Tables {
     pub roots: [u16; 1024],
 }
 
-// The record of zeros, which stands in unused entries.
-pub(crate) fn no_view() -> BufferView
-    ensures { result ≡ no_view }
-{
-    BufferView {
-        buffer: 0,
-        byte_offset: 0,
-        byte_length: 0,
-        byte_stride: 0,
-        has_byte_stride: false,
-        target: 0,
-        has_target: false,
-    }
-}
-
-pub(crate) fn no_accessor() -> Accessor
-    ensures { result ≡ no_accessor }
-{
-    let sparse = Sparse {
-        count: 0,
-        indices_view: 0,
-        indices_offset: 0,
-        indices_type: 0,
-        values_view: 0,
-        values_offset: 0,
-    };
-    Accessor {
-        buffer_view: 0,
-        has_buffer_view: false,
-        byte_offset: 0,
-        component_type: 0,
-        count: 0,
-        element_type: 0,
-        normalized: false,
-        has_sparse: false,
-        sparse,
-    }
-}
-
 // View record i; the last for a larger number.
-pub(crate) fn view_at(records: [BufferView; 64], i: u32) -> BufferView
-    ensures { result ≡ view_at records i }
+pub(crate) fn view_at(records: &[BufferView; 64], i: u32) -> BufferView
+    ensures { result ≡ view_at records.now i }
 {
-    let at = finding::at_most(i, 63) as usize;
-    records[at]
+    records[i.min(63) as usize]
 }
 
 // Accessor record i, zeros where there is none.
-pub(crate) fn accessor_at(records: [Accessor; 128], i: u32) -> Accessor
-    ensures { result ≡ get_or records i no_accessor }
+pub(crate) fn accessor_at(records: &[Accessor; 128], i: u32) -> Accessor
+    ensures { result ≡ get_or records.now i no_accessor }
 {
-    let at = i as usize;
-    if at < 128 {
-        return records[at];
-    }
-    no_accessor()
+    records.get(i as usize).copied().unwrap_or_default()
 }
 
 // The tables of a refused file: every count and entry 0.
+#[tactic(auto, unfolding(crate::specs::Records::empty_tables))]
 pub fn empty() -> Tables
     ensures { result ≡ empty_tables }
 {
-    let view = no_view();
-    let accessor = no_accessor();
-    let list = List {
-        start: 0,
-        length: 0,
-    };
     Tables {
         buffers: 0,
         views: 0,
@@ -155,11 +110,11 @@ pub fn empty() -> Tables
         buffer_length: 0,
         scene: 0,
         has_scene: false,
-        view_records: [view; 64],
-        accessor_records: [accessor; 128],
-        node_lists: [list; 128],
+        view_records: [BufferView::default(); 64],
+        accessor_records: [Accessor::default(); 128],
+        node_lists: [List::default(); 128],
         children: [0; 128],
-        scene_lists: [list; 8],
+        scene_lists: [List::default(); 8],
         roots: [0; 1024],
     }
 }

@@ -1,5 +1,6 @@
 -- The answer for a chunk is exact: the smallest rule of 9 to 13 that is broken, with the place where it is.
 -- Assumes nothing.
+use Rattle.std.specs.Prelude.{Result, Ok, ⊤}
 use Prim.Native.Nat.{ℕ, ◌≤◌, ◌<◌}
 use mathlib.Core.Path.{◌≡◌, refl, sym, ap, subst}
 use mathlib.Core.Bool.{Bool, true, false}
@@ -8,15 +9,14 @@ use native.Mathlib.Omega.{arith}
 use borrow.Author.Tests.{ltb-true, ltb-false, le-ltb}
 use lib.Dec.{ltb}
 use lib.ListN.{length}
-use Rattle.utf8.specs.declared.Utf8.{Utf8}
+use Rattle.utf8.specs.declared.NotUtf8.{NotUtf8}
 use Rattle.utf8.specs.Rfc3629.{Octets}
 use Rattle.utf8.specs.Utf8.{utf8_of}
 use Rattle.utf8.specs.Exact.{Utf8Says}
 use Rattle.utf8.specs.Exact.Utf8Says.{says_whole, says_ends}
 use Rattle.utf8.proofs.Exact.{utf8_exact}
-use Rattle.json_text.specs.declared.Nesting.{Nesting}
-use Rattle.json_text.specs.declared.Nesting.TheVariants.{Within}
-use Rattle.json_text.specs.declared.answer.Scan.{Scan}
+use Rattle.json_text.specs.declared.error.TooDeep.{TooDeep}
+use Rattle.json_text.specs.declared.error.ScanError.{ScanError}
 use Rattle.json_text.specs.Tree.{Json, Fields, depth}
 use Rattle.json_text.specs.Grammar.{Text}
 use Rattle.json_text.specs.Depth.{peak, depth_of}
@@ -120,14 +120,14 @@ names_exact s ms short x l c =
     (λ d. by13_exact s ms x l d (repeat_of s) (r13.in_order x short l) (r13.rule13 x short l)))
 
 -- rule 11, where rule 10 holds
-by11_exact : (s : List ℕ) → length s ≤ 65536 → Octets s [] → peak outside 0 s ≤ 32 → depth_of 32 s ≡ Within
-    → (r : Scan) → Checked s 32 r → Exact s (by11 r (name_fault s))
+by11_exact : (s : List ℕ) → length s ≤ 65536 → Octets s [] → peak outside 0 s ≤ 32 → depth_of 32 s ≡ Ok tt
+    → (r : Result ℕ ScanError) → Checked s 32 r → Exact s (by11 r (name_fault s))
 by11_exact s short o p w r (checked_past {ms = ms} x l) = names_exact s ms short x l (clean12 s ms o p x)
 by11_exact s short o p w r (checked_broke long) = refused (rule11 long.none) (clean11 s o p) (at11 long)
 by11_exact s short o p w r (checked_deep e none) = absurd (let z : ◌≡◌ {A = ℕ} 0 1 = cc in omega arith)
 
 -- rule 10
-by10_exact : (s : List ℕ) → length s ≤ 65536 → Octets s [] → (d : Nesting) → depth_of 32 s ≡ d → Counted s 32 d
+by10_exact : (s : List ℕ) → length s ≤ 65536 → Octets s [] → (d : Result ⊤ TooDeep) → depth_of 32 s ≡ d → Counted s 32 d
     → Exact s (by10 d (by11 (scan_of 32 s) (name_fault s)))
 by10_exact s short o d e (counted_within p) = by11_exact s short o p e (scan_of 32 s) (scan_exact 32 s)
 by10_exact s short o d e (counted_passes l a b) =
@@ -140,7 +140,7 @@ by10_exact s short o d e (counted_passes l a b) =
         let z : ◌≡◌ {A = ℕ} 0 1 = cc in omega arith)
 
 -- rule 9
-by9_exact : (s : List ℕ) → length s ≤ 65536 → (u : Utf8) → Utf8Says s u
+by9_exact : (s : List ℕ) → length s ≤ 65536 → (u : Result ⊤ NotUtf8) → Utf8Says s u
     → Exact s (by9 u (by10 (depth_of 32 s) (by11 (scan_of 32 s) (name_fault s))))
 by9_exact s short u (says_whole o) = by10_exact s short o (depth_of 32 s) refl (depth_exact 32 s)
 by9_exact s short u (says_ends none l long) = refused (rule9 none) (clean9 s) (at9 l long)

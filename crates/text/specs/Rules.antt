@@ -1,17 +1,13 @@
 -- Rules 9 to 13 of a chunk, in their order: the smallest that is broken, with its place.
 -- Assumes nothing: these are definitions.
-use Rattle.std.specs.Prelude.{ℕ, cond, List, ltb, length}
-use Rattle.utf8.specs.declared.Utf8.{Utf8}
-use Rattle.utf8.specs.declared.Utf8.TheVariants.{Whole, Ends}
+use Rattle.std.specs.Prelude.{ℕ, cond, List, ltb, length, Option, Some, None, Result, Ok, Err, ⊤}
+use Rattle.utf8.specs.declared.NotUtf8.{NotUtf8}
 use Rattle.utf8.specs.Utf8.{utf8_of}
-use Rattle.json_text.specs.declared.Nesting.{Nesting}
-use Rattle.json_text.specs.declared.Nesting.TheVariants.{Within, Passes}
-use Rattle.json_text.specs.declared.answer.Scan.{Scan}
-use Rattle.json_text.specs.declared.answer.Scan.TheVariants.{Past, Broke, Deep}
+use Rattle.json_text.specs.declared.error.TooDeep.{TooDeep}
+use Rattle.json_text.specs.declared.error.ScanError.{ScanError}
+use Rattle.json_text.specs.declared.error.ScanError.TheVariants.{Broke, Deep}
 use Rattle.json_text.specs.Depth.{depth_of}
 use Rattle.json_text.specs.Answer.{scan_of}
-use Rattle.names.specs.declared.Escaped.{Escaped}
-use Rattle.names.specs.declared.Escaped.TheVariants.{Plain, Holds}
 use Rattle.names.specs.declared.Search.{Search}
 use Rattle.names.specs.declared.Search.TheVariants.{Clear, Repeats, Full}
 use Rattle.names.specs.Names.{escaped_of, repeat_of}
@@ -22,25 +18,25 @@ abbrev pub fault : ℕ → ℕ → Fault
 fault n p = record { number = n; place = p }
 
 -- rule 9, and where it holds what comes after it
-abbrev pub by9 : Utf8 → Fault → Fault
-by9 Whole next = next
-by9 (Ends p) next = fault 9 p
+abbrev pub by9 : Result ⊤ NotUtf8 → Fault → Fault
+by9 (Ok x) next = next
+by9 (Err e) next = fault 9 e.place
 
 -- rule 10
-abbrev pub by10 : Nesting → Fault → Fault
-by10 Within next = next
-by10 (Passes p) next = fault 10 p
+abbrev pub by10 : Result ⊤ TooDeep → Fault → Fault
+by10 (Ok x) next = next
+by10 (Err e) next = fault 10 e.place
 
 -- rule 11
-abbrev pub by11 : Scan → Fault → Fault
-by11 (Past p) next = next
-by11 (Broke p) next = fault 11 p
-by11 (Deep p) next = fault 11 p
+abbrev pub by11 : Result ℕ ScanError → Fault → Fault
+by11 (Ok p) next = next
+by11 (Err (Broke p)) next = fault 11 p
+by11 (Err (Deep p)) next = fault 11 p
 
 -- rule 12
-abbrev pub by12 : Escaped → Fault → Fault
-by12 Plain next = next
-by12 (Holds p) next = fault 12 p
+abbrev pub by12 : Option ℕ → Fault → Fault
+by12 None next = next
+by12 (Some p) next = fault 12 p
 
 -- rule 13
 abbrev pub by13 : Search → Fault

@@ -3,70 +3,76 @@
 
 ghost use Rattle.std.specs.Prelude.{◌≡◌};
 ghost use Rattle.text.specs.Rules.{name_fault, grammar_fault, text_of};
+ghost use Rattle.text.specs.Results.{outcome_of};
 
-use json_text::{Nesting, Scan};
-use names::{Escaped, Search};
-use utf8::Utf8;
+use json_text::{ScanError, TooDeep};
+use names::Search;
+use utf8::NotUtf8;
 
-// The smallest of the rules 9 to 13 that a chunk breaks, 0 if none, and the place in the chunk where it is broken, 0 where none is.
-// 8: the chunk is longer than 65,536 bytes, and no other rule is looked at.
-#[repr(C)]
-#[derive(Clone, Copy)]
+// The smallest of the rules 9 to 13 that a chunk breaks, and the place in the chunk where it is broken.
+// 8: the chunk is longer than 65,536 bytes, and no other rule is looked at; the place is 0.
+// Stays: the rule is its number in the rule table, which the definitions and theorems name and C gets as the verdict.
+#[derive(Clone, Copy, Debug, PartialEq, Eq)]
 pub struct Fault {
     pub number: u32,
     pub place: usize,
 }
 
+impl From<NotUtf8> for Fault {
+    ghost from_gives = { λ e fault. fault ≡ record { number = 9; place = e.place } };
+
+    fn from(e: NotUtf8) -> Fault {
+        Fault {
+            number: 9,
+            place: e.place,
+        }
+    }
+}
+
 // Rules 12 and 13 of a text.
-fn names_fault(chunk: &[u8]) -> Fault
-    ensures { result ≡ name_fault chunk.now }
+#[tactic(auto, unfolding(crate::specs::Rules::name_fault))]
+fn check_names(chunk: &[u8]) -> Result<(), Fault>
+    ensures { result ≡ outcome_of (name_fault chunk.now) }
 {
-    if let Escaped::Holds(place) = names::first_escaped(chunk) {
-        return Fault { number: 12, place };
+    if let Some(place) = names::first_escaped(chunk) {
+        return Err(Fault { number: 12, place });
     }
     match names::first_repeat(chunk) {
-        Search::Repeats(place, _) => Fault { number: 13, place },
-        Search::Clear(_) => Fault {
-            number: 0,
-            place: 0,
-        },
-        Search::Full => Fault {
-            number: 0,
-            place: 0,
-        },
+        Search::Repeats(place, _) => Err(Fault { number: 13, place }),
+        Search::Clear(_) | Search::Full => Ok(()),
     }
 }
 
 // Rules 10 and 11 of a chunk that the scan does not accept: the depth count decides between them.
+#[tactic(auto, unfolding(crate::specs::Rules::grammar_fault))]
 fn grammar_fault(chunk: &[u8], place: usize) -> Fault
     ensures { result ≡ grammar_fault chunk.now place }
 {
-    if let Nesting::Passes(bracket) = json_text::depth(chunk) {
-        return Fault {
+    match json_text::depth(chunk) {
+        Err(TooDeep { place: bracket }) => Fault {
             number: 10,
             place: bracket,
-        };
+        },
+        Ok(()) => Fault { number: 11, place },
     }
-    Fault { number: 11, place }
 }
 
-// The smallest of the rules 9 to 13 that the chunk breaks. A text that the scan accepts passes rule 10, so the depth is counted
-// only where it does not.
-pub fn check(chunk: &[u8]) -> Fault
-    ensures { result ≡ text_of chunk.now }
+// Rules 9 to 13: the smallest that the chunk breaks. A text that the scan accepts passes rule 10, so the depth is counted only
+// where it does not.
+#[tactic(auto, using(crate::proofs::Steps::too_long, crate::proofs::Steps::not_utf8, crate::proofs::Steps::accepted, crate::proofs::Steps::broken, crate::proofs::Steps::deep))]
+pub fn check(chunk: &[u8]) -> Result<(), Fault>
+    ensures { result ≡ outcome_of (text_of chunk.now) }
 {
     if 65536 < chunk.len() {
-        return Fault {
+        return Err(Fault {
             number: 8,
             place: 0,
-        };
+        });
     }
-    if let Utf8::Ends(place) = utf8::check(chunk) {
-        return Fault { number: 9, place };
-    }
+    utf8::check(chunk)?;
     match json_text::scan(chunk) {
-        Scan::Past(_) => names_fault(chunk),
-        Scan::Broke(place) => grammar_fault(chunk, place),
-        Scan::Deep(place) => grammar_fault(chunk, place),
+        Ok(_) => check_names(chunk),
+        Err(ScanError::Broke(place)) => Err(grammar_fault(chunk, place)),
+        Err(ScanError::Deep(place)) => Err(grammar_fault(chunk, place)),
     }
 }

@@ -12,13 +12,11 @@ pub fn time_elements(file: &[u8], s: Selection, component: u32, n: u32) -> u32
     ensures { result ≡ count_of file.now s component n }
 {
     let mut count: u32 = 0;
-    let mut i: u32 = 0;
-    while i < n {
-        let r = access::component_in(file, s, i, component);
-        if r.value != 0 {
+    for i in 0..n {
+        let value = access::component_in(file, s, i, component).unwrap_or(0);
+        if value != 0 {
             count += 1;
         }
-        i += 1;
     }
     count
 }

@@ -17,7 +17,7 @@ use Rattle.utf8.proofs.Whole.{ending, whole_most}
 longest : (s : List ℕ) → LongestWhole s (whole_of s)
 longest s = record { whole = (ending s).whole; longest = λ q m o. omega (arith, whole_most o, length-drop q s) }
 
--- `Whole` exactly where s is UTF8-octets, and otherwise the longest start of s that is
+-- `Ok` exactly where s is UTF8-octets, and otherwise the longest start of s that is
 pub utf8_exact : (s : List ℕ) → Utf8Says s (utf8_of s)
 unfolding utf8_of
 utf8_exact s =

@@ -2,5 +2,6 @@
 mod Tests
 mod Table
 mod Whole
+pub mod Widths
 mod Turns
 pub mod Exact

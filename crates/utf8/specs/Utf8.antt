@@ -1,8 +1,7 @@
 -- Rule 9 as a function: how long the longest start of whole characters is.
 -- Assumes nothing: these are definitions.
-use Rattle.std.specs.Prelude.{ℕ, zero, suc, ◌-◌, Bool, ◌||◌, ◌&&◌, cond, List, [], ◌∷◌, eqb, leb, length, get_or}
-use Rattle.utf8.specs.declared.Utf8.{Utf8}
-use Rattle.utf8.specs.declared.Utf8.TheVariants.{Whole, Ends}
+use Rattle.std.specs.Prelude.{ℕ, zero, suc, ◌-◌, Bool, ◌||◌, ◌&&◌, cond, List, [], ◌∷◌, eqb, leb, length, get_or, Result, Ok, Err, ⊤}
+use Rattle.utf8.specs.declared.NotUtf8.{NotUtf8}
 
 -- the byte at a place, 256 past the end
 abbrev pub byte_at : List ℕ → ℕ → ℕ
@@ -57,5 +56,5 @@ abbrev pub whole_of : List ℕ → ℕ
 whole_of s = whole_from 0 s
 
 -- rule 9
-unfoldable pub utf8_of : List ℕ → Utf8
-utf8_of s = cond (eqb (whole_of s) (length s)) Whole (Ends (whole_of s))
+unfoldable pub utf8_of : List ℕ → Result ⊤ NotUtf8
+utf8_of s = cond (eqb (whole_of s) (length s)) (Ok tt) (Err (record { place = whole_of s }))

@@ -3,7 +3,7 @@ use Rattle.access.proofs.component.Goals as goal
 
 pub returns-then-t-accessor : goal.returns-then-t-accessor
 unfolding component_of
-returns-then-t-accessor c = rw (c.refused.ensures, c.if-t-accessor.true)
+returns-then-t-accessor c = rw c.if-t-accessor.true
 
 pub returns : goal.returns
 unfolding component_of

@@ -18,8 +18,7 @@ unfit c = ap (λ (f : Fit). f.unfit) c.own_fit-fit.ensures
 pub returns-then-fit : goal.returns-then-fit
 returns-then-fit c =
     let a = c.args in
-    c.refused.ensures
-    ∙ sym (unfit_in a.file.now a.s a.element a.component
+    sym (unfit_in a.file.now a.s a.element a.component
     (by_own (length a.file.now) a.s (sym (unfit (goal.at.returns-then-fit c).After-own_fit-fit) ∙ c.if-fit.true)))
 
 pub sparse_in-requires : goal.sparse_in-requires

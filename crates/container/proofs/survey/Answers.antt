@@ -32,10 +32,10 @@ pub loop-kind-preserved : goal.loop-kind-preserved
 loop-kind-preserved c =
     let f = c.args.file.now in
     let l = c.loop-kind in
-    let e = length_at f l.at l.count l.json l.bin l.invariant (whole (goal.at.loop-kind-preserved c).In-loop-kind) in
-    rw (c.word.ensures, e, c.advance-json.ensures, c.advance-bin.ensures)
-    (stage_next f l.at l.count l.json l.bin l.invariant (whole (goal.at.loop-kind-preserved c).In-loop-kind) c.word-kind.result
-    (c.word-kind.ensures ∙ type_at f l.at l.count l.json l.bin l.invariant (whole (goal.at.loop-kind-preserved c).In-loop-kind)))
+    let e = length_at f l.at l.count l.wrong_json l.wrong_bin l.invariant (whole (goal.at.loop-kind-preserved c).In-loop-kind) in
+    rw (c.word.ensures, e, c.or-wrong_json.ensures, c.or-wrong_bin.ensures, c.then_some.ensures, c.then_some-in-loop-kind.ensures)
+    (stage_next f l.at l.count l.wrong_json l.wrong_bin l.invariant (whole (goal.at.loop-kind-preserved c).In-loop-kind) c.word-kind.result
+    (c.word-kind.ensures ∙ type_at f l.at l.count l.wrong_json l.wrong_bin l.invariant (whole (goal.at.loop-kind-preserved c).In-loop-kind)))
 
 pub returns : goal.returns
 returns c = stage_last c.args.file.now _ _ _ _ c.loop-kind.invariant (rw c.is_whole.ensures at c.loop-kind-test.false)

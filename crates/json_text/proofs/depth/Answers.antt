@@ -1,102 +1,36 @@
--- `json_text::depth` meets its contract. The loop's invariant: the first byte past the levels, counted from `i` on.
+-- `json_text::depth` meets its contract.
 -- Assumes nothing.
-use Prim.Native.Nat.{◌<◌}
-use native.Mathlib.Omega.{arith}
-use borrow.Author.Tests.{ltb-true}
-use Rattle.laws.proofs.Tests.{and-true}
-use lib.ListN.{get_or}
-use lib.Dec.{eqb, ltb}
-use mathlib.Core.Bool.{◌||◌}
-use Rattle.json_text.proofs.Counts.{string_turn, string_end, open_turn, open_stop, close_turn, rest_turn, within}
-use Rattle.json_text.proofs.Counts.{passes}
+use Rattle.std.proofs.Common.{arith}
+use Rattle.json_text.proofs.Counts.{over_string, over_open, over_close, over_other, at_passing, at_end, within, passes}
 use Rattle.json_text.proofs.depth.Goals as goal
-
-pub loop-i-init : goal.loop-i-init
-loop-i-init c = omega arith
-
-pub bounds-s-i : goal.bounds-s-i
-bounds-s-i c = omega arith
-
-pub overflow_add-next : goal.overflow_add-next
-overflow_add-next c = omega arith
-
-pub close-e-requires : goal.close-e-requires
-close-e-requires c = omega arith
-
-pub overflow_add-i : goal.overflow_add-i
-overflow_add-i c = omega arith
-
-pub loop-i-smaller-then-e-s : goal.loop-i-smaller-then-e-s
-loop-i-smaller-then-e-s c = omega (arith, c.close-e.ensures)
-
-pub loop-i-preserved-then-e-s : goal.loop-i-preserved-then-e-s
-loop-i-preserved-then-e-s c =
-    let h =
-    string_turn 32 c.loop-i.d c.args.s.now c.loop-i.i (omega arith) c.loop-i.invariant.1
-    c.close-e.result (omega arith) c.close-e.ensures c.if-e-s.true in
-    (omega arith, omega arith, omega (arith, h, c.loop-i.invariant.2))
-
-pub returns-else-e-s : goal.returns-else-e-s
-returns-else-e-s c =
-    let h =
-    string_end 32 c.loop-i.d c.args.s.now c.loop-i.i (omega arith) c.loop-i.invariant.1
-    c.close-e.result (omega arith) c.close-e.ensures c.if-e-s.false in
-    within 32 c.args.s.now (omega (arith, h, c.loop-i.invariant.2))
-
-pub returns-then-d-eq-LEVELS : goal.returns-then-d-eq-LEVELS
-returns-then-d-eq-LEVELS c =
-    let h =
-    open_stop 32 c.loop-i.d c.args.s.now c.loop-i.i (omega arith) c.loop-i.invariant.1
-    c.if-b.true c.if-d-eq-LEVELS.true in
-    passes 32 c.args.s.now c.loop-i.i (omega arith) (omega (arith, h, c.loop-i.invariant.2))
-
-pub overflow_add-d : goal.overflow_add-d
-overflow_add-d c = omega (arith, c.loop-i.invariant.1, c.if-d-eq-LEVELS.false)
-
-pub loop-i-smaller-then-b : goal.loop-i-smaller-then-b
-loop-i-smaller-then-b c = omega arith
-
-pub loop-i-preserved-then-b : goal.loop-i-preserved-then-b
-loop-i-preserved-then-b c =
-    let g : c.loop-i.d < 32 = omega (arith, c.loop-i.invariant.1, c.if-d-eq-LEVELS.false) in
-    let h =
-    open_turn 32 c.loop-i.d c.args.s.now c.loop-i.i (omega arith) c.loop-i.invariant.1
-    c.if-b.true g in
-    (omega arith, omega arith, omega (arith, h, c.loop-i.invariant.2))
-
-pub overflow_sub-d : goal.overflow_sub-d
-overflow_sub-d c =
-    let h =
-    and-true
-    (eqb (get_or c.args.s.now c.loop-i.i 0) 0x5d || eqb
-    (get_or c.args.s.now c.loop-i.i 0) 0x7d)
-    (ltb 0 c.loop-i.d) c.if-b-d.true in
-    omega (arith, ltb-true 0 c.loop-i.d h.1)
-
-pub loop-i-smaller-then-b-d : goal.loop-i-smaller-then-b-d
-loop-i-smaller-then-b-d c = omega arith
-
-pub loop-i-preserved-then-b-d : goal.loop-i-preserved-then-b-d
-loop-i-preserved-then-b-d c =
-    let g =
-    and-true
-    (eqb (get_or c.args.s.now c.loop-i.i 0) 0x5d || eqb
-    (get_or c.args.s.now c.loop-i.i 0) 0x7d)
-    (ltb 0 c.loop-i.d) c.if-b-d.true in
-    let h =
-    close_turn 32 c.loop-i.d c.args.s.now c.loop-i.i (omega arith) c.loop-i.invariant.1
-    g.0 in
-    (omega arith, omega arith, omega (arith, h, c.loop-i.invariant.2))
-
-pub loop-i-smaller : goal.loop-i-smaller
-loop-i-smaller c = omega arith
+use Rattle.json_text.proofs.depth.Goals.{then-b-eq-MARK, else-b-eq-MARK+then-b+else-d-eq-LEVELS, else-b-eq-MARK+else-b+then-b-2, else-b-eq-MARK+else-b+else-b-2}
 
 pub loop-i-preserved : goal.loop-i-preserved
 loop-i-preserved c =
-    let h =
-    rest_turn 32 c.loop-i.d c.args.s.now c.loop-i.i (omega arith) c.loop-i.invariant.1
-    (λ e. omega arith) c.if-b.false c.if-b-d.false in
-    (omega arith, omega arith, omega (arith, h, c.loop-i.invariant.2))
+    let l = c.loop-i in
+    let s = c.args.s.now in
+    let t = c.loop-i-test.true in
+    let h = l.invariant in
+    elim c.if-b-eq-MARK.branch [
+      | then-b-eq-MARK w ↦
+          rw (w.i-is, w.d-is)
+          (over_string 32 l.d s l.i t h w.close-i.result w.if-b-eq-MARK.true w.close-i.ensures)
+      | else-b-eq-MARK+then-b+else-d-eq-LEVELS w ↦
+          rw (w.i-is, w.d-is) (over_open 32 l.d s l.i t h w.if-b.true w.if-d-eq-LEVELS.false)
+      | else-b-eq-MARK+else-b+then-b-2 w ↦
+          rw (w.i-is, w.d-is, w.saturating_sub-d.ensures) (over_close 32 l.d s l.i t h w.if-b-2.true)
+      | else-b-eq-MARK+else-b+else-b-2 w ↦
+          rw (w.i-is, w.d-is) (over_other 32 l.d s l.i t h w.if-b-eq-MARK.false w.if-b.false w.if-b-2.false)
+    ]
+
+pub overflow_add-i-in-loop-i : goal.overflow_add-i-in-loop-i
+overflow_add-i-in-loop-i c = let h = loop-i-preserved c in omega (arith, h.0)
+
+pub returns-then-d-eq-LEVELS : goal.returns-then-d-eq-LEVELS
+returns-then-d-eq-LEVELS c =
+    let l = c.loop-i in
+    let t = c.loop-i-test.true in
+    passes 32 c.args.s.now l.i t (at_passing 32 l.d c.args.s.now l.i t l.invariant c.if-b.true c.if-d-eq-LEVELS.true)
 
 pub returns : goal.returns
-returns c = within 32 c.args.s.now (omega (arith, c.loop-i.invariant.2))
+returns c = let l = c.loop-i in within 32 c.args.s.now (at_end 32 l.d c.args.s.now l.i c.loop-i-test.false l.invariant)

@@ -7,29 +7,29 @@ use Rattle.lines.proofs.put_counts.Goals as goal
 
 pub put_field-a-requires : goal.put_field-a-requires
 put_field-a-requires c =
-    let a = c.args in
-    simp field_length (omega (arith, c.requires, counts_length a.views a.accessors a.nodes a.scenes))
+    let s = c.args.s in
+    simp field_length (omega (arith, c.requires, counts_length s.views s.accessors s.nodes s.scenes))
 
 pub put_field-b-requires : goal.put_field-b-requires
 put_field-b-requires c =
     let p1 = c.put_field-a in
-    let a = c.args in
-    simp field_length (omega (arith, c.requires, counts_length a.views a.accessors a.nodes a.scenes, simp field_length at p1.ensures.ends, p1.auto.out))
+    let s = c.args.s in
+    simp field_length (omega (arith, c.requires, counts_length s.views s.accessors s.nodes s.scenes, simp field_length at p1.ensures.ends, p1.auto.out))
 
 pub put_field-c-requires : goal.put_field-c-requires
 put_field-c-requires c =
     let p2 = c.put_field-b in
     let p1 = c.put_field-a in
-    let a = c.args in
-    simp field_length (omega (arith, c.requires, counts_length a.views a.accessors a.nodes a.scenes, simp field_length at p1.ensures.ends, p1.auto.out, simp field_length at p2.ensures.ends, p2.auto.out))
+    let s = c.args.s in
+    simp field_length (omega (arith, c.requires, counts_length s.views s.accessors s.nodes s.scenes, simp field_length at p1.ensures.ends, p1.auto.out, simp field_length at p2.ensures.ends, p2.auto.out))
 
 pub put_field-d-requires : goal.put_field-d-requires
 put_field-d-requires c =
     let p3 = c.put_field-c in
     let p2 = c.put_field-b in
     let p1 = c.put_field-a in
-    let a = c.args in
-    simp field_length (omega (arith, c.requires, counts_length a.views a.accessors a.nodes a.scenes, simp field_length at p1.ensures.ends, p1.auto.out, simp field_length at p2.ensures.ends, p2.auto.out, simp field_length at p3.ensures.ends, p3.auto.out))
+    let s = c.args.s in
+    simp field_length (omega (arith, c.requires, counts_length s.views s.accessors s.nodes s.scenes, simp field_length at p1.ensures.ends, p1.auto.out, simp field_length at p2.ensures.ends, p2.auto.out, simp field_length at p3.ensures.ends, p3.auto.out))
 
 pub put-requires : goal.put-requires
 put-requires c =
@@ -37,8 +37,8 @@ put-requires c =
     let p3 = c.put_field-c in
     let p2 = c.put_field-b in
     let p1 = c.put_field-a in
-    let a = c.args in
-    omega (arith, c.requires, counts_length a.views a.accessors a.nodes a.scenes, simp field_length at p1.ensures.ends, p1.auto.out, simp field_length at p2.ensures.ends, p2.auto.out, simp field_length at p3.ensures.ends, p3.auto.out, simp field_length at p4.ensures.ends, p4.auto.out)
+    let s = c.args.s in
+    omega (arith, c.requires, counts_length s.views s.accessors s.nodes s.scenes, simp field_length at p1.ensures.ends, p1.auto.out, simp field_length at p2.ensures.ends, p2.auto.out, simp field_length at p3.ensures.ends, p3.auto.out, simp field_length at p4.ensures.ends, p4.auto.out)
 
 pub returns : goal.returns
 unfolding counts_line

@@ -7,18 +7,18 @@ use Rattle.lines.proofs.put_verdict.Goals as goal
 
 pub put_field-a-requires : goal.put_field-a-requires
 put_field-a-requires c =
-    simp field_length (omega (arith, c.requires, verdict_length c.args.verdict c.args.item))
+    simp field_length (omega (arith, c.requires, verdict_length c.args.s.verdict c.args.s.item))
 
 pub put_field-b-requires : goal.put_field-b-requires
 put_field-b-requires c =
     let p = c.put_field-a in
-    simp field_length (omega (arith, c.requires, verdict_length c.args.verdict c.args.item, simp field_length at p.ensures.ends, p.auto.out))
+    simp field_length (omega (arith, c.requires, verdict_length c.args.s.verdict c.args.s.item, simp field_length at p.ensures.ends, p.auto.out))
 
 pub put-requires : goal.put-requires
 put-requires c =
     let q = c.put_field-b in
     let p = c.put_field-a in
-    omega (arith, c.requires, verdict_length c.args.verdict c.args.item, simp field_length at p.ensures.ends, p.auto.out, simp field_length at q.ensures.ends, q.auto.out)
+    omega (arith, c.requires, verdict_length c.args.s.verdict c.args.s.item, simp field_length at p.ensures.ends, p.auto.out, simp field_length at q.ensures.ends, q.auto.out)
 
 pub returns : goal.returns
 unfolding verdict_line

@@ -9,7 +9,7 @@ use Rattle.names.proofs.Stages.{start, opened, string_stage, open_stage, open_no
 use Rattle.names.proofs.Stages.{close_stage, rest_stage, colon_none, colon_stage, clear}
 use Rattle.names.proofs.Looks.{look_start, fits, look_skip, look_differs, look_found, look_all}
 use Rattle.names.proofs.search_names.Goals.{then-lengths-k+else-same, else-lengths-k, else-text-test}
-use Rattle.names.proofs.search_names.Goals.{then-text-test+else-b-eq34+then-b-eq58+then-earlier-test+then-lengths-k+then-same}
+use Rattle.names.proofs.search_names.Goals.{then-text-test+else-b-eq34+then-b-eq58+then-loop-k-test+then-lengths-k+then-same}
 use Rattle.names.proofs.search_names.Goals as goal
 
 pub text-init : goal.text-init
@@ -42,8 +42,8 @@ text-preserved-then-b-eq34 c =
 pub overflow_add-from : goal.overflow_add-from
 overflow_add-from c = omega arith
 
-pub earlier-init : goal.earlier-init
-earlier-init c = (c.text.invariant, look_start _ _ _ _ _ _, omega arith)
+pub loop-k-init : goal.loop-k-init
+loop-k-init c = (c.text.invariant, look_start _ _ _ _ _ _)
 
 pub offset_bounds-lengths-k : goal.offset_bounds-lengths-k
 offset_bounds-lengths-k c = omega arith
@@ -52,7 +52,7 @@ pub bounds-lengths-k : goal.bounds-lengths-k
 bounds-lengths-k c = omega arith
 
 pub overflow_cast-lengths : goal.overflow_cast-lengths
-overflow_cast-lengths c = omega (arith, c.type_inv.lengths c.earlier.k)
+overflow_cast-lengths c = omega (arith, c.type_inv.lengths c.loop-k.k)
 
 pub overflow_add-pairs : goal.overflow_add-pairs
 overflow_add-pairs c = omega arith
@@ -64,26 +64,20 @@ pub bounds-starts-k : goal.bounds-starts-k
 bounds-starts-k c = omega arith
 
 pub overflow_cast-start : goal.overflow_cast-start
-overflow_cast-start c = omega (arith, c.type_inv.starts c.earlier.k)
+overflow_cast-start c = omega (arith, c.type_inv.starts c.loop-k.k)
 
 pub overflow_add-start : goal.overflow_add-start
-overflow_add-start c = omega (arith, c.type_inv.starts c.earlier.k)
+overflow_add-start c = omega (arith, c.type_inv.starts c.loop-k.k)
 
 pub same-requires : goal.same-requires
 same-requires c =
-    let h = fits c.earlier.invariant.0 (omega arith) c.earlier.invariant.1 (omega arith) in
+    let h = fits c.loop-k.invariant.0 (omega arith) c.loop-k.invariant.1 (omega arith) in
     (omega arith, omega (arith, h, c.if-lengths-k.true))
 
-pub overflow_add-k : goal.overflow_add-k
-overflow_add-k c = omega arith
-
-pub earlier-smaller : goal.earlier-smaller
-earlier-smaller c = omega arith
-
-pub earlier-preserved : goal.earlier-preserved
-earlier-preserved c =
-    let g = c.earlier.invariant.0 in
-    let m = c.earlier.invariant.1 in (
+pub loop-k-preserved : goal.loop-k-preserved
+loop-k-preserved c =
+    let g = c.loop-k.invariant.0 in
+    let m = c.loop-k.invariant.1 in (
       g,
       elim c.if-lengths-k.branch [
         | then-lengths-k+else-same w ↦
@@ -91,7 +85,6 @@ earlier-preserved c =
             (look_differs g (omega arith) m (omega arith) w.if-lengths-k.true (sym w.same.ensures ∙ w.if-same.false))
         | else-lengths-k w ↦ rw w.pairs-is (look_skip g (omega arith) m (omega arith) w.if-lengths-k.false)
       ],
-      omega arith,
     )
 
 pub shape_of-starts-then-top-room : goal.shape_of-starts-then-top-room
@@ -102,8 +95,8 @@ shape_of-lengths-then-top-room c = omega arith
 
 pub returns-then-top-room : goal.returns-then-top-room
 returns-then-top-room c =
-    let g = c.earlier.invariant.0 in
-    let z = look_all g c.earlier.invariant.1 c.earlier.invariant.2 c.earlier-test.false in
+    let g = c.loop-k.invariant.0 in
+    let z = look_all g c.loop-k.invariant.1 (c.loop-k.auto.k-end (omega (arith, g.stack.tops))) c.loop-k-test.false in
     colon_none g (omega arith) c.if-b-eq58.true z.none c.if-top-room.true
 
 pub overflow_cast-starts : goal.overflow_cast-starts
@@ -132,9 +125,9 @@ text-smaller-then-b-eq58 c = omega arith
 
 pub text-preserved-then-b-eq58 : goal.text-preserved-then-b-eq58
 text-preserved-then-b-eq58 c =
-    let g = c.earlier.invariant.0 in
-    let z = look_all g c.earlier.invariant.1 c.earlier.invariant.2 c.earlier-test.false in
-    colon_stage g (omega arith) c.earlier.pairs c.if-b-eq58.true z.none z.counted z.few c.if-top-room.false
+    let g = c.loop-k.invariant.0 in
+    let z = look_all g c.loop-k.invariant.1 (c.loop-k.auto.k-end (omega (arith, g.stack.tops))) c.loop-k-test.false in
+    colon_stage g (omega arith) c.loop-k.pairs c.if-b-eq58.true z.none z.counted z.few c.if-top-room.false
 
 pub shape_of-starts-then-top-room-2 : goal.shape_of-starts-then-top-room-2
 shape_of-starts-then-top-room-2 c = omega arith
@@ -207,9 +200,9 @@ pub returns-then-i-s : goal.returns-then-i-s
 returns-then-i-s c =
     elim c.text-test.branch [
       | else-text-test w ↦ absurd (omega (arith, w.text-test.false, c.if-i-s.true))
-      | then-text-test+else-b-eq34+then-b-eq58+then-earlier-test+then-lengths-k+then-same w ↦
+      | then-text-test+else-b-eq34+then-b-eq58+then-loop-k-test+then-lengths-k+then-same w ↦
           rw w.pairs-is
-          (look_found w.earlier.invariant.0 c.if-i-s.true w.earlier.invariant.1 w.earlier-test.true w.if-b-eq58.true
+          (look_found w.loop-k.invariant.0 c.if-i-s.true w.loop-k.invariant.1 w.loop-k-test.true w.if-b-eq58.true
           w.if-lengths-k.true (sym w.same.ensures ∙ w.if-same.true))
     ]
 
@@ -223,6 +216,6 @@ pub returns-else-i-s : goal.returns-else-i-s
 returns-else-i-s c =
     elim c.text-test.branch [
       | else-text-test w ↦ rw w.pairs-is (clear c.text.invariant w.text-test.false)
-      | then-text-test+else-b-eq34+then-b-eq58+then-earlier-test+then-lengths-k+then-same w ↦
+      | then-text-test+else-b-eq34+then-b-eq58+then-loop-k-test+then-lengths-k+then-same w ↦
           absurd (omega (arith, w.text-test.true, c.if-i-s.false))
     ]

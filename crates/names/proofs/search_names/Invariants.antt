@@ -1,16 +1,12 @@
-use Prim.Native.Nat.{◌-◌, ◌≤◌}
+use Prim.Native.Nat.{◌-◌}
 use lib.ListN.{length}
 use Rattle.names.proofs.Stages.{Stage, last_name}
 use Rattle.names.proofs.Looks.{Looked}
 use Rattle.names.proofs.search_names.Given as goal
 
-abbrev pub invariant-earlier : goal.invariant-earlier
-invariant-earlier l = Stage l.room l.s l.starts l.lengths l.base l.top l.last l.size l.initial.pairs l.i
+abbrev pub invariant-loop-k : goal.invariant-loop-k
+invariant-loop-k l = Stage l.room l.s l.starts l.lengths l.base l.top l.last l.size l.initial.pairs l.i
     × Looked l.s l.starts l.lengths (last_name l.s l.last l.size) l.base l.k l.initial.pairs l.pairs
-    × (l.k ≤ l.top)
-
-abbrev pub decreases-earlier : goal.decreases-earlier
-decreases-earlier l = l.top - l.k
 
 abbrev pub invariant-text : goal.invariant-text
 invariant-text l = Stage l.room l.s l.starts l.lengths l.base l.top l.last l.size l.pairs l.i

@@ -10,15 +10,24 @@ use mir.Syntax.{w64}
 use mir.Val.{of_z, to_z}
 use mir.ValLaws.{to_z-of_z}
 use Rattle.tables.specs.declared.selection.Selection.{Selection}
+use Rattle.std.specs.Prelude.{Result, Ok, Err}
+use Rattle.std.specs.Result.{result_unwrap_or}
 use Rattle.access.specs.declared.Reading.{Reading}
+use Rattle.access.specs.declared.Refusal.{Refusal}
+use Rattle.access.specs.Results.{reading_of}
 use Rattle.access.specs.Readings.{component_in}
 use Rattle.timing_loop.specs.Counts.{is_zero, count_of}
 use Rattle.timing_loop.proofs.time_elements.Goals as goal
-use Rattle.timing_loop.proofs.time_elements.Goals.{then-r-ne0, else-r-ne0}
+use Rattle.timing_loop.proofs.time_elements.Goals.{then-value-ne0, else-value-ne0}
 
 pub loop-i-init : goal.loop-i-init
 unfolding count_of
-loop-i-init c = (omega arith, omega arith, refl)
+loop-i-init c = (omega arith, refl)
+
+-- a refused reading's value is 0
+value_or : (r : Result ℤ Refusal) → (reading_of r).value ≡ result_unwrap_or r (pos 0)
+value_or (Ok v) = refl
+value_or (Err e) = refl
 
 -- a number that is not 0
 nonzero : (v : ℤ) → (v ≡ pos 0 → ⊥) → is_zero v ≡ false
@@ -41,15 +50,15 @@ pub loop-i-preserved : goal.loop-i-preserved
 loop-i-preserved c =
     let a = c.args in
     let l = c.loop-i in
-    let r = c.component_in-r in
-    let e = sym (ap (λ (x : Reading). x.value) r.ensures) in
-    elim c.if-r-ne0.branch [
-      | then-r-ne0 w ↦ (omega arith, omega arith, w.count-is ∙ ap (λ (n : ℕ). n + 1) l.invariant.2 ∙ more a.file.now a.s a.component l.i r.result.value e (λ z. w.if-r-ne0.true (ap (of_z w64) z)))
-      | else-r-ne0 w ↦ (omega arith, omega arith, w.count-is ∙ l.invariant.2 ∙ same a.file.now a.s a.component l.i r.result.value e (sym (to_z-of_z w64 r.result.value (search rules)) ∙ ap (to_z w64) w.if-r-ne0.false))
+    let v = c.unwrap_or-value in
+    let e = sym (ap (λ (x : Reading). x.value) c.component_in.ensures) ∙ value_or c.component_in.result ∙ sym v.ensures in
+    elim c.if-value-ne0.branch [
+      | then-value-ne0 w ↦ (omega arith, w.count-is ∙ ap (λ (n : ℕ). n + 1) l.invariant.1 ∙ more a.file.now a.s a.component l.i v.result e (λ z. w.if-value-ne0.true (ap (of_z w64) z)))
+      | else-value-ne0 w ↦ (omega arith, w.count-is ∙ l.invariant.1 ∙ same a.file.now a.s a.component l.i v.result e (sym (to_z-of_z w64 v.result (search rules)) ∙ ap (to_z w64) w.if-value-ne0.false))
     ]
 
 pub returns : goal.returns
 returns c =
     let l = c.loop-i in
     let a = c.args in
-    l.invariant.2 ∙ ap (count_of a.file.now a.s a.component) (omega arith)
+    l.invariant.1 ∙ ap (count_of a.file.now a.s a.component) (omega arith)

@@ -1,37 +1,32 @@
 -- `utf8::width` meets its contract.
 -- Assumes nothing.
-use borrow.Author.Tests.{le-leb, lt-leb}
-use Rattle.utf8.specs.Utf8.{within, width_of}
+use native.Mathlib.Omega.{arith}
+use Rattle.utf8.proofs.Widths.{no_byte, one_byte, no_second, two_bytes, no_third, three_bytes, no_fourth, four_bytes, no_bytes}
 use Rattle.utf8.proofs.width.Goals as goal
 
+pub returns-in_err-a : goal.returns-in_err-a
+returns-in_err-a c = grind (arith, no_byte)
+
 pub returns-then-a-le127 : goal.returns-then-a-le127
-unfolding width_of
-returns-then-a-le127 c = rw (le-leb _ 0x7f c.if-a-le127.true)
+returns-then-a-le127 c = grind (arith, one_byte)
 
-pub returns-then-two : goal.returns-then-two
-unfolding width_of within
-returns-then-two c = rw (lt-leb _ 0x7f c.if-a-le127.false, c.if-two.true)
+pub returns-in_err-b : goal.returns-in_err-b
+returns-in_err-b c = grind (arith, no_second)
 
-pub returns-then-three-tail_c : goal.returns-then-three-tail_c
-unfolding width_of within
-returns-then-three-tail_c c = rw (lt-leb _ 0x7f c.if-a-le127.false, c.if-two.false, c.if-three-tail_c.true)
+pub returns-then-starts_two : goal.returns-then-starts_two
+returns-then-starts_two c = grind (arith, two_bytes)
 
-pub returns-then-four-tail_c : goal.returns-then-four-tail_c
-unfolding width_of within
-returns-then-four-tail_c c =
-    rw (
-      lt-leb _ 0x7f c.if-a-le127.false,
-      c.if-two.false,
-      c.if-three-tail_c.false,
-      c.if-four-tail_c.true,
-    )
+pub returns-in_err-c : goal.returns-in_err-c
+returns-in_err-c c = grind (arith, no_third)
+
+pub returns-then-starts_three-is_tail : goal.returns-then-starts_three-is_tail
+returns-then-starts_three-is_tail c = grind (arith, three_bytes)
+
+pub returns-in_err-d : goal.returns-in_err-d
+returns-in_err-d c = grind (arith, no_fourth)
+
+pub returns-then-starts_four-is_tail : goal.returns-then-starts_four-is_tail
+returns-then-starts_four-is_tail c = grind (arith, four_bytes)
 
 pub returns : goal.returns
-unfolding width_of within
-returns c =
-    rw (
-      lt-leb _ 0x7f c.if-a-le127.false,
-      c.if-two.false,
-      c.if-three-tail_c.false,
-      c.if-four-tail_c.false,
-    )
+returns c = grind (arith, no_bytes)

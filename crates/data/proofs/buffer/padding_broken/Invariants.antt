@@ -7,6 +7,3 @@ use Rattle.data.proofs.buffer.padding_broken.Given as goal
 abbrev pub invariant-loop-k : goal.invariant-loop-k
 invariant-loop-k l = (l.byte_length ≤ l.k)
     × ((j : ℕ) → j < l.k - l.byte_length → is_stray l.file l.start l.byte_length j ≡ false)
-
-abbrev pub decreases-loop-k : goal.decreases-loop-k
-decreases-loop-k l = l.bin_length - l.k

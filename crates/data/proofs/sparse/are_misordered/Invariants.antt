@@ -1,4 +1,4 @@
-use Prim.Native.Nat.{ℕ, ◌+◌, ◌*◌, ◌-◌, ◌<◌, ◌≤◌}
+use Prim.Native.Nat.{ℕ, ◌+◌, ◌*◌, ◌<◌}
 use mathlib.Core.Path.{◌≡◌}
 use mathlib.Core.Bool.{false}
 use mathlib.Core.List.{List}
@@ -12,9 +12,5 @@ abbrev pub indices : List ℕ → ℕ → ℕ → ℕ → ℕ
 indices file first size k = little_at file (first + size * k) size
 
 abbrev pub invariant-loop-k : goal.invariant-loop-k
-invariant-loop-k l = (l.k ≤ l.entries)
-    × ((j : ℕ) → j < l.k → misordered (indices l.file l.first l.size) l.count j ≡ false)
+invariant-loop-k l = ((j : ℕ) → j < l.k → misordered (indices l.file l.first l.size) l.count j ≡ false)
     × (l.lowest ≡ lowest (indices l.file l.first l.size) l.k)
-
-abbrev pub decreases-loop-k : goal.decreases-loop-k
-decreases-loop-k l = l.entries - l.k

@@ -1,8 +1,7 @@
-use borrow.Author.Rules.{rules}
 use Prim.Native.Nat.{◌+◌, ◌*◌, ◌<◌}
 use mathlib.Core.Path.{sym, ◌∙◌}
 use native.Mathlib.Omega.{arith}
-use lib.ListN.{length, length-set}
+use lib.ListN.{length}
 use Rattle.device.specs.Words.{short}
 use Rattle.device.proofs.Entries.{filled_none, filled_more, filled_all}
 use Rattle.device.proofs.Walks.{within}
@@ -10,7 +9,7 @@ use Rattle.device.proofs.lists.shorts.Goals as goal
 use Rattle.device.proofs.lists.shorts.Goals.{In-loop-i}
 
 pub loop-i-init : goal.loop-i-init
-loop-i-init c = (omega arith, search rules, sym (filled_none _ _))
+loop-i-init c = sym (filled_none _ _)
 
 -- the word of entry i is one of the 4,000
 below : (c : In-loop-i)
@@ -19,31 +18,25 @@ below c =
     within c.args.from c.args.step c.loop-i.i (length c.args.out.now) c.requires.0 (omega arith) c.requires.1
 
 pub overflow_mul-step : goal.overflow_mul-step
-overflow_mul-step c = omega (arith, below c)
+overflow_mul-step c = omega (arith, below (goal.at.overflow_mul-step c).In-loop-i)
 
 pub overflow_add-from : goal.overflow_add-from
-overflow_add-from c = omega (arith, below c)
+overflow_add-from c = omega (arith, below (goal.at.overflow_add-from c).In-loop-i)
 
 pub offset_bounds-words-from : goal.offset_bounds-words-from
-offset_bounds-words-from c = omega (arith, below c)
+offset_bounds-words-from c = omega (arith, below (goal.at.offset_bounds-words-from c).In-loop-i)
 
 pub bounds-words-from : goal.bounds-words-from
 bounds-words-from c = below (goal.at.bounds-words-from c).In-loop-i
 
-pub overflow_cast-out : goal.overflow_cast-out
-overflow_cast-out c = omega (arith, c.at_most.ensures)
-
 pub loop-i-preserved : goal.loop-i-preserved
 loop-i-preserved c =
     let l = c.loop-i in
-    let a = c.args in (
-      omega arith,
-      simp length-set l.invariant.1,
-      rw (l.invariant.2, c.at_most.ensures)
-          (filled_more (λ k. short a.words.now (a.from + a.step * k)) a.out.now l.i (omega arith)),
-    )
+    let a = c.args in
+    rw (l.invariant, c.min.ensures)
+    (filled_more (λ k. short a.words.now (a.from + a.step * k)) a.out.now l.i (omega arith))
 
 pub returns : goal.returns
 returns c =
     let l = c.loop-i in
-    l.invariant.2 ∙ filled_all _ _ l.i (omega arith)
+    l.invariant ∙ filled_all _ _ l.i (omega arith)

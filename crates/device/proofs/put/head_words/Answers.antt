@@ -1,6 +1,7 @@
 use Rattle.device.specs.Words.{head_words}
+use Rattle.device.proofs.Bits.{bit_is}
 use Rattle.device.proofs.put.head_words.Goals as goal
 
 pub returns : goal.returns
 unfolding head_words
-returns c = rw c.bit_of-has_scene.ensures
+returns c = rw (c.from.ensures, bit_is c.args.t.has_scene)

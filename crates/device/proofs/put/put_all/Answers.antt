@@ -1,60 +1,51 @@
 use borrow.Author.Rules.{rules}
-use mathlib.Core.Path.{◌≡◌, ap, ◌∙◌}
-use Prim.Native.Nat.{ℕ}
-use mathlib.Core.List.{List}
+use mathlib.Core.Path.{◌≡◌, ◌∙◌}
 use native.Mathlib.Omega.{arith}
 use lib.ListN.{length}
-use Rattle.scene.specs.Steps.{written}
+use Rattle.device.specs.Words.{head_words}
+use Rattle.device.specs.Widths.{head_width}
 use Rattle.device.specs.Meaning.{Stored}
+use Rattle.device.proofs.Bounds.{lists_of, shorts_of}
+use Rattle.device.proofs.Rows.{put_written, rows_numbers}
 use Rattle.device.proofs.Sections.{sections}
 use Rattle.device.proofs.put.put_all.Goals as goal
 use Rattle.device.proofs.put.put_all.Goals.{Start}
 
--- the packed lists have the lengths of their types
-children_length : (c : Start) → length c.args.t.children ≡ 128
-children_length c = search rules
+-- the arrays have the lengths of their types
+views : (c : Start) → length c.args.t.view_records ≡ 64
+views c = search rules
 
-roots_length : (c : Start) → length c.args.t.roots ≡ 1024
-roots_length c = search rules
+accessors : (c : Start) → length c.args.t.accessor_records ≡ 128
+accessors c = search rules
 
-pub put_numbers-requires : goal.put_numbers-requires
-put_numbers-requires c =
-    omega (
-      arith,
-      children_length (goal.at.put_numbers-requires c).Start,
-      c.requires,
-      c.put_row.auto.words,
-      c.put_views.auto.words,
-      c.put_accessors.auto.words,
-      c.put_nodes.auto.words,
-    )
+nodes : (c : Start) → length c.args.t.node_lists ≡ 128
+nodes c = search rules
 
-pub put_scenes-requires : goal.put_scenes-requires
-put_scenes-requires c =
-    c.put_numbers.auto.words ∙ c.put_nodes.auto.words ∙ c.put_accessors.auto.words ∙ c.put_views.auto.words
-    ∙ c.put_row.auto.words ∙ c.requires
+children : (c : Start) → length c.args.t.children ≡ 128
+children c = search rules
 
-pub put_numbers-requires-2 : goal.put_numbers-requires-2
-put_numbers-requires-2 c =
-    let n = c.put_scenes.auto.words ∙ c.put_numbers.auto.words ∙ c.put_nodes.auto.words ∙ c.put_accessors.auto.words
-    ∙ c.put_views.auto.words ∙ c.put_row.auto.words ∙ c.requires in
-    omega (arith, roots_length (goal.at.put_numbers-requires-2 c).Start, n)
+scenes : (c : Start) → length c.args.t.scene_lists ≡ 8
+scenes c = search rules
+
+roots : (c : Start) → length c.args.t.roots ≡ 1024
+roots c = search rules
 
 pub returns : goal.returns
 returns c =
-    let a = c.args in
+    let t = c.args.t in
     let s = (goal.at.returns c).Start in
-    let sized : Stored a.t = record {
-      views = c.put_views.ensures.1;
-      accessors = c.put_accessors.ensures.1;
-      nodes = c.put_nodes.ensures.1;
-      children = record { many = children_length s; fit = c.put_numbers.ensures.1 };
-      scenes = c.put_scenes.ensures.1;
-      roots = record { many = roots_length s; fit = c.put_numbers-2.ensures.1 };
+    let sized : Stored t = record {
+      views = views s;
+      accessors = accessors s;
+      nodes = lists_of 128 t.node_lists (nodes s) c.put_records-3.ensures.fit;
+      children = shorts_of 128 t.children (children s) c.put_records-4.ensures.fit;
+      scenes = lists_of 8 t.scene_lists (scenes s) c.put_records-5.ensures.fit;
+      roots = shorts_of 1024 t.roots (roots s) c.put_records-6.ensures.fit;
     } in (
-      sections a.t sized a.words.now _ _ _ _ _ _ _ c.requires
-          (c.put_row.ensures ∙ ap (λ (l : List ℕ). written a.words.now 0 l) c.head_words-head.ensures)
-          c.put_views.ensures.0 c.put_accessors.ensures.0 c.put_nodes.ensures.0 c.put_numbers.ensures.0
-          c.put_scenes.ensures.0 c.put_numbers-2.ensures.0,
+      sections t sized c.args.words.now _ _ _ _ _ _ _ c.requires
+          (put_written _ 0 16 (head_words t) _ (c.copy_from_slice.ensures.after ∙ c.head_words.ensures) (omega (arith, head_width t)))
+          c.put_records.ensures.words c.put_records-2.ensures.words c.put_records-3.ensures.words
+          (rw rows_numbers at c.put_records-4.ensures.words) c.put_records-5.ensures.words
+          (rw rows_numbers at c.put_records-6.ensures.words),
       sized,
     )

@@ -1,4 +1,3 @@
-use mathlib.Core.Path.{refl}
 use borrow.Author.Tests.{leb-false}
 use lib.Dec.{leb}
 use lib.ListN.{get_or}
@@ -9,7 +8,7 @@ use Rattle.device.proofs.readings.component.Goals as goal
 
 pub returns-then-words-accessor : goal.returns-then-words-accessor
 unfolding component_of tables_of
-returns-then-words-accessor c = rw c.if-words-accessor.true (refl, refl)
+returns-then-words-accessor c = rw c.if-words-accessor.true
 
 pub selection-s-requires : goal.selection-s-requires
 selection-s-requires c =
@@ -20,4 +19,4 @@ selection-s-requires c =
 pub returns : goal.returns
 unfolding component_of tables_of
 returns c =
-    rw (c.component_in.ensures, c.selection-s.ensures, c.if-words-accessor.false) (refl, refl)
+    rw (c.component_in.ensures, c.selection-s.ensures, c.if-words-accessor.false)

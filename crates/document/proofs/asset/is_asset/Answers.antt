@@ -1,20 +1,28 @@
 -- `document::asset::is_asset` meets its contract. Assumes nothing.
-use Rattle.nav.proofs.Navigation.{gather_says, gather_tree, at_some, at_none}
-use Rattle.document.proofs.Objects.{object_past}
+use mathlib.Core.Path.{refl}
+use native.Mathlib.Omega.{arith}
+use Rattle.nav.specs.Members.{field_of}
+use Rattle.nav.proofs.Navigation.{gather_past, gather_member}
+use Rattle.document.specs.Names.{'version', 'minVersion'}
+use Rattle.document.proofs.Placing.{at_some, at_none, is_past}
 use Rattle.document.proofs.asset.is_asset.Goals as goal
 
-pub returns-then-at-eq0 : goal.returns-then-at-eq0
-returns-then-at-eq0 c = λ o t. rw (at_none t c.if-at-eq0.true)
+pub returns-in_default : goal.returns-in_default
+returns-in_default c = λ o t. rw (at_none t c.in_default.is)
 
 pub returns : goal.returns
-returns c = λ o t.
-    let a = c.args in
-    let g = at_some t c.if-at-eq0.false in
-    let e = c.gather-places.ensures in
-    let f = gather_tree a.s.now a.at e g.2 in
+returns c = λ o h.
+    let s = c.args.s.now in
+    let at = c.in-Some.at in
+    let g = at_some h c.in-Some.is in
+    let j = g.0 in
+    let t = g.2 in
+    let e = c.gather.ensures in
     rw (
       g.1,
-      ← object_past (gather_says a.s.now a.at e).end g.2,
-      ← c.is_version-version.ensures _ f.fa,
-      ← c.is_minimum-minimum.ensures _ f.fb,
+      ← is_past (gather_past s at _ e) t,
+      ← c.is_some.ensures,
+      ← c.is_version-version.ensures (field_of 'version' j) (gather_member s at _ e t 0 (omega arith) (omega arith)),
+      ← c.is_minimum-minimum.ensures (field_of 'minVersion' j) (gather_member s at _ e t 1 (omega arith) (omega arith)),
     )
+    refl

@@ -1,6 +1,7 @@
 -- `document::nodes::lists_fault` meets its contract. Assumes nothing.
 use native.Mathlib.Omega.{arith}
-use mathlib.Core.Path.{sym, ◌∙◌}
+use mathlib.Core.Path.{sym, ap, ◌∙◌}
+use Rattle.graph.specs.Results.{outcome_of}
 use Rattle.graph.proofs.Streams.{stream_verdict}
 use Rattle.document.specs.Lists.{nodes_of, roots_of}
 use Rattle.document.proofs.nodes.lists_fault.Goals as goal
@@ -12,19 +13,10 @@ pub root_scenes-found-requires : goal.root_scenes-found-requires
 root_scenes-found-requires c =
     record { scenes_bound = c.requires.scenes_bound; marks_len = c.requires.marks_len ∙ sym c.link_nodes-past.auto.parents }
 
-pub overflow_cast-scenes : goal.overflow_cast-scenes
-overflow_cast-scenes c =
-    omega (arith, c.requires.scenes_bound)
-
-pub shape_of-parents : goal.shape_of-parents
-shape_of-parents c = c.link_nodes-past.auto.parents
-
-pub shape_of-marks : goal.shape_of-marks
-shape_of-marks c = c.root_scenes-found.auto.marks
-
 pub returns : goal.returns
 returns c = λ o p f g h k.
     let fed = c.link_nodes-past.ensures o f h in
     c.verdict.ensures
-    ∙ stream_verdict (nodes_of o) (roots_of p) (omega (arith, h, c.requires.parents_len_bound)) fed.0 fed.1
-    (c.root_scenes-found.ensures p g k) (sym k)
+    ∙ ap outcome_of
+    (stream_verdict (nodes_of o) (roots_of p) (omega (arith, h, c.requires.parents_len_bound)) fed.0 fed.1
+    (c.root_scenes-found.ensures p g k) (sym k))

@@ -1,63 +1,87 @@
 -- `document::top::top` meets its contract. Assumes nothing.
-use mathlib.Core.Path.{sym, ap, ◌∙◌}
-use mathlib.Core.Bool.{Bool, not}
-use lib.Dec.{eqb}
-use lib.ListN.{drop}
-use Rattle.json_text.specs.Tree.{Json}
-use Rattle.nav.specs.Places.{Stands}
-use Rattle.nav.proofs.Navigation.{gather_tree}
-use Rattle.document.proofs.Objects.{has_place}
-use Rattle.document.proofs.Parts.{Few, few, nodes_count, scenes_count, Parts, refused_read, said_read}
+use mathlib.Core.Path.{◌≡◌, refl, sym, ◌∙◌}
+use native.Mathlib.Omega.{arith}
+use mathlib.Core.Bool.{true, false}
+use Rattle.std.proofs.lemmas.Result.{err_from_is_err_and, IfOk-at_ok}
+use Rattle.nav.specs.Members.{field_of}
+use Rattle.nav.proofs.Navigation.{gather_member}
+use Rattle.document.specs.Names.{'asset', 'nodes', 'scenes'}
+use Rattle.document.specs.Rules.{rule14, rule15, rule16, rule17, rule18}
+use Rattle.document.specs.Said.{said, graph_of}
+use Rattle.document.specs.Tops.{PlacesTo}
+use Rattle.document.proofs.Placing.{has_member}
+use Rattle.document.proofs.Tops.{is14, is15, is16, is17, is18, is_none, answer_refused, answer_said, asset_read}
+use Rattle.document.proofs.Tops.{extensions_read, kinds_ok, kinds_err, over_read, uri_read, tables_said, few_of, placed_said, sound_few}
 use Rattle.document.proofs.top.top.Goals as goal
-use Rattle.document.proofs.top.top.Goals.{After-first_rule-number, Else-number-ne0}
 
--- whether `extensionsRequired` is there
-abbrev there : After-first_rule-number → Bool
-there c = not (eqb c.top_places-places.result.b 0)
+pub returns-then-not-is_asset : goal.returns-then-not-is_asset
+returns-then-not-is_asset c = λ j t.
+    let p : PlacesTo c.args.s.now j c.gather-found.result.places = λ i l. gather_member c.args.s.now c.args.at _ c.gather-found.ensures t i l (omega (arith, l)) in
+    let a : rule14 j ≡ true = asset_read j (c.is_asset.ensures (field_of 'asset' j) (p 0 (omega arith))) ∙ rw c.if-not-is_asset.true refl in
+    rw c.rule.ensures (answer_refused j 14 (λ z. omega (arith, z)) (is14 j a))
 
--- what was read is the tree's
-parts : (c : After-first_rule-number) (j : Json) → Stands (drop c.args.at c.args.s.now) j →
-    Parts j c.is_asset-asset.result (there c) c.buffers-buffers.result c.views-views.result c.accessors-accessors.result c.nodes-nodes.result
-    c.scenes-scenes.result c.integer-scene.result
-parts c j t =
-    let m = gather_tree c.args.s.now c.args.at c.top_places-places.ensures t in
-    record {
-      is_asset = c.is_asset-asset.ensures _ m.fa;
-      extensions = has_place m.fb;
-      buffers = c.buffers-buffers.ensures _ m.fc;
-      views = c.views-views.ensures _ m.fd;
-      accessors = c.accessors-accessors.ensures _ m.fe;
-      nodes = c.nodes-nodes.ensures _ m.ff;
-      scenes = c.scenes-scenes.ensures _ m.fg;
-      scene = c.integer-scene.ensures _ m.fh;
-    }
+pub returns-then-is_some : goal.returns-then-is_some
+returns-then-is_some c = λ j t.
+    let p : PlacesTo c.args.s.now j c.gather-found.result.places = λ i l. gather_member c.args.s.now c.args.at _ c.gather-found.ensures t i l (omega (arith, l)) in
+    let a : rule14 j ≡ false = asset_read j (c.is_asset.ensures (field_of 'asset' j) (p 0 (omega arith))) ∙ rw c.if-not-is_asset.false refl in
+    let b : rule15 j ≡ true = extensions_read j (c.is_some.ensures ∙ has_member (p 1 (omega arith))) ∙ c.if-is_some.true in
+    rw c.rule-then-is_some.ensures (answer_refused j 15 (λ z. omega (arith, z)) (is15 j a b))
 
--- where rules 14 to 18 hold, the counts are small
-small : (c : Else-number-ne0) → Few c.buffers-buffers.result c.views-views.result c.accessors-accessors.result c.nodes-nodes.result c.scenes-scenes.result
-small c =
-    few c.is_asset-asset.result (not (eqb c.top_places-places.result.b 0)) c.buffers-buffers.result c.views-views.result
-    c.accessors-accessors.result c.nodes-nodes.result c.scenes-scenes.result c.integer-scene.result
-    (sym c.first_rule-number.ensures ∙ c.if-number-ne0.false)
+pub returns-in_err-read : goal.returns-in_err-read
+returns-in_err-read c = λ j t.
+    let p : PlacesTo c.args.s.now j c.gather-found.result.places = λ i l. gather_member c.args.s.now c.args.at _ c.gather-found.ensures t i l (omega (arith, l)) in
+    let a : rule14 j ≡ false = asset_read j (c.is_asset.ensures (field_of 'asset' j) (p 0 (omega arith))) ∙ rw c.if-not-is_asset.false refl in
+    let b : rule15 j ≡ false = extensions_read j (c.is_some.ensures ∙ has_member (p 1 (omega arith))) ∙ c.if-is_some.false in
+    let r = c.read_members.ensures j p in
+    let k : rule16 j ≡ true = kinds_err r c.in_err-read.was in
+    let e = err_from_is_err_and c.from_residual.result c.from_residual.ensures.1 in
+    rw (e.1, e.2) (answer_refused j 16 (λ z. omega (arith, z)) (is16 j a b k))
 
-pub returns-then-number-ne0 : goal.returns-then-number-ne0
-returns-then-number-ne0 c = λ j t.
-    c.refuse.ensures ∙ refused_read (parts (goal.at.returns-then-number-ne0 c).After-first_rule-number j t) c.first_rule-number.ensures c.if-number-ne0.true
+pub returns-then-is_over : goal.returns-then-is_over
+returns-then-is_over c = λ j t.
+    let p : PlacesTo c.args.s.now j c.gather-found.result.places = λ i l. gather_member c.args.s.now c.args.at _ c.gather-found.ensures t i l (omega (arith, l)) in
+    let a : rule14 j ≡ false = asset_read j (c.is_asset.ensures (field_of 'asset' j) (p 0 (omega arith))) ∙ rw c.if-not-is_asset.false refl in
+    let b : rule15 j ≡ false = extensions_read j (c.is_some.ensures ∙ has_member (p 1 (omega arith))) ∙ c.if-is_some.false in
+    let r = c.read_members.ensures j p in
+    let k : rule16 j ≡ false = kinds_ok r c.in_ok-read.was in
+    let m = IfOk-at_ok _ c.in_ok-read.was r.are in
+    let d : rule17 j ≡ true = over_read m ∙ sym c.is_over.ensures ∙ c.if-is_over.true in
+    rw c.rule-then-is_over.ensures (answer_refused j 17 (λ z. omega (arith, z)) (is17 j a b k d))
+
+pub returns-then-buffer : goal.returns-then-buffer
+returns-then-buffer c = λ j t.
+    let p : PlacesTo c.args.s.now j c.gather-found.result.places = λ i l. gather_member c.args.s.now c.args.at _ c.gather-found.ensures t i l (omega (arith, l)) in
+    let a : rule14 j ≡ false = asset_read j (c.is_asset.ensures (field_of 'asset' j) (p 0 (omega arith))) ∙ rw c.if-not-is_asset.false refl in
+    let b : rule15 j ≡ false = extensions_read j (c.is_some.ensures ∙ has_member (p 1 (omega arith))) ∙ c.if-is_some.false in
+    let r = c.read_members.ensures j p in
+    let k : rule16 j ≡ false = kinds_ok r c.in_ok-read.was in
+    let m = IfOk-at_ok _ c.in_ok-read.was r.are in
+    let d : rule17 j ≡ false = over_read m ∙ sym c.is_over.ensures ∙ c.if-is_over.false in
+    let u : rule18 j ≡ true = uri_read m ∙ c.if-buffer.true in
+    rw c.rule-then-buffer.ensures (answer_refused j 18 (λ z. omega (arith, z)) (is18 j a b k d u))
 
 pub graph_fault-graph-requires : goal.graph_fault-graph-requires
-graph_fault-graph-requires c = record { nodes_bound = (small c).nodes; scenes_bound = (small c).scenes }
+graph_fault-graph-requires c =
+    let f = few_of c.in_ok-read.read (sym c.is_over.ensures ∙ c.if-is_over.false) in
+    record { nodes_bound = f.nodes; scenes_bound = f.scenes }
 
-pub tables_of-tables-requires : goal.tables_of-tables-requires
-tables_of-tables-requires c =
-    let f = small (goal.at.tables_of-tables-requires c).Else-number-ne0 in
-    let e = c.graph_fault-graph.result.number in
-    let n = ap (λ m. m.count) c.sound_nodes-kept_nodes.ensures ∙ nodes_count e c.nodes-nodes.result in
-    let s = ap (λ m. m.count) c.sound_scenes-kept_scenes.ensures ∙ scenes_count e c.scenes-scenes.result in
-    record { count_bound = f.buffers; count_bound_2 = f.views; count_bound_3 = f.accessors; count_bound_4 = rw n f.nodes; count_bound_5 = rw s f.scenes }
+pub tables-requires : goal.tables-requires
+tables-requires c =
+    rw (c.sound-read.ensures, c.sound-read-2.ensures)
+    (sound_few c.graph_fault-graph.result (few_of c.in_ok-read.read (sym c.is_over.ensures ∙ c.if-is_over.false)))
 
 pub returns : goal.returns
+unfolding said
 returns c = λ j t.
-    let p = parts (goal.at.returns c).After-first_rule-number j t in
-    let m = gather_tree c.args.s.now c.args.at c.top_places-places.ensures t in
-    let e = c.graph_fault-graph.ensures _ _ m.ff m.fg (sym p.nodes.count) (sym p.scenes.count) in
-    rw (c.tables_of-tables.ensures, c.sound_nodes-kept_nodes.ensures, c.sound_scenes-kept_scenes.ensures)
-    (said_read p c.first_rule-number.ensures c.if-number-ne0.false c.graph_fault-graph.result e)
+    let p : PlacesTo c.args.s.now j c.gather-found.result.places = λ i l. gather_member c.args.s.now c.args.at _ c.gather-found.ensures t i l (omega (arith, l)) in
+    let a : rule14 j ≡ false = asset_read j (c.is_asset.ensures (field_of 'asset' j) (p 0 (omega arith))) ∙ rw c.if-not-is_asset.false refl in
+    let b : rule15 j ≡ false = extensions_read j (c.is_some.ensures ∙ has_member (p 1 (omega arith))) ∙ c.if-is_some.false in
+    let r = c.read_members.ensures j p in
+    let k : rule16 j ≡ false = kinds_ok r c.in_ok-read.was in
+    let m = IfOk-at_ok _ c.in_ok-read.was r.are in
+    let d : rule17 j ≡ false = over_read m ∙ sym c.is_over.ensures ∙ c.if-is_over.false in
+    let u : rule18 j ≡ false = uri_read m ∙ c.if-buffer.false in
+    let f = few_of c.in_ok-read.read (sym c.is_over.ensures ∙ c.if-is_over.false) in
+    let e = c.graph_fault-graph.ensures (field_of 'nodes' j) (field_of 'scenes' j) (p 5 (omega arith)) (p 6 (omega arith)) (sym m.nodes_are.count) (sym m.scenes_are.count) in
+    rw (c.tables.ensures, c.sound-read.ensures, c.sound-read-2.ensures, e, tables_said m f (graph_of j) refl, placed_said m)
+    (sym (answer_said j (is_none j a b k d u)))

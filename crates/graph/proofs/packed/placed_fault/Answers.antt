@@ -1,25 +1,23 @@
 -- `graph::packed::placed_fault` meets its contract. Assumes nothing.
-use mathlib.Core.Path.{sym, ◌∙◌}
+use mathlib.Core.Path.{sym, ap, ◌∙◌}
 use native.Mathlib.Omega.{arith}
-use lib.ListN.{length}
 use Rattle.graph.specs.Packing.{packed_lists}
+use Rattle.graph.specs.Results.{outcome_of}
 use Rattle.graph.proofs.Placing.{placed, length-packed}
 use Rattle.graph.proofs.Streams.{stream_verdict}
 use Rattle.graph.proofs.packed.placed_fault.Goals as goal
 
-pub overflow_cast-scenes : goal.overflow_cast-scenes
-overflow_cast-scenes c =
-    omega (arith, (placed c.requires.scenes_value).fits)
-
 pub returns : goal.returns
 returns c =
-    let a = c.args in
-    let n = length a.parents.now in
-    let kids = packed_lists a.node_starts.now a.node_lengths.now a.children.now n in
-    let scenes = packed_lists a.scene_starts.now a.scene_lengths.now a.roots.now a.scenes in
-    let counted = length-packed a.node_starts.now a.node_lengths.now a.children.now n in
+    let nodes = c.args.nodes.now.lists in
+    let scenes = c.args.scenes.now.lists in
+    let kids = packed_lists nodes.starts.now nodes.lengths.now nodes.entries.now nodes.count in
+    let roots = packed_lists scenes.starts.now scenes.lengths.now scenes.entries.now scenes.count in
+    let counted = length-packed nodes.starts.now nodes.lengths.now nodes.entries.now nodes.count in
+    let few = (placed c.args.nodes.now.in_place).fits in
     c.verdict.ensures
-    ∙ stream_verdict kids scenes (omega (arith, (placed c.requires.parents_value).fits, counted))
+    ∙ ap outcome_of
+    (stream_verdict kids roots (omega (arith, few, counted))
     c.children_past-past.ensures.0 c.children_past-past.ensures.1
     c.roots_found-found.ensures
-    (sym (length-packed a.scene_starts.now a.scene_lengths.now a.roots.now a.scenes))
+    (sym (length-packed scenes.starts.now scenes.lengths.now scenes.entries.now scenes.count)))

@@ -1,12 +1,8 @@
-use Prim.Native.Nat.{ℕ, ◌≤◌, ◌<◌, ◌-◌}
+use Prim.Native.Nat.{ℕ, ◌<◌}
 use mathlib.Core.Bool.{false}
 use mathlib.Core.Path.{◌≡◌}
-use lib.ListN.{length}
 use Rattle.graph.specs.Stream.{endless_in}
 use Rattle.graph.proofs.verdict.first_endless.Given as goal
 
 abbrev pub invariant-loop-x : goal.invariant-loop-x
-invariant-loop-x l = (l.x ≤ length l.parents) × ((k : ℕ) → k < l.x → endless_in l.parents k ≡ false)
-
-abbrev pub decreases-loop-x : goal.decreases-loop-x
-decreases-loop-x l = length l.parents - l.x
+invariant-loop-x l = (k : ℕ) → k < l.x → endless_in l.parents k ≡ false

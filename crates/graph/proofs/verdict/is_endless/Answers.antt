@@ -1,6 +1,6 @@
 -- `graph::verdict::is_endless` meets its contract. Assumes nothing.
 use Prim.Native.Nat.{◌≤◌}
-use mathlib.Core.Path.{◌≡◌, sym}
+use mathlib.Core.Path.{sym}
 use native.Mathlib.Omega.{arith}
 use borrow.Author.Tests.{le-ltb}
 use lib.ListN.{length, get_or-eq_default}
@@ -13,15 +13,8 @@ pub returns-then-n-at : goal.returns-then-n-at
 unfolding endless_in
 returns-then-n-at c =
     let a = c.args in
-    let l = c.loop-k in
+    let l = c.loop in
     let ps = a.parents.now in
-    let past : length ps ≤ climb (up_in ps) l.k a.x = rw l.invariant.1 at c.if-n-at.true in
+    let past : length ps ≤ climb (up_in ps) l.counter a.x = rw l.invariant at c.if-n-at.true in
     sym (le-ltb _ _ (later (up_in ps) (length ps) a.x (λ y h. rw (get_or-eq_default ps (length ps) h) (omega arith))
-    l.k (length ps) l.invariant.0 past))
-
-pub returns : goal.returns
-unfolding endless_in
-returns c =
-    let ps = c.args.parents.now in
-    let e : c.loop-k.k ≡ length ps = omega arith in
-    rw (c.loop-k.invariant.1, e)
+    l.counter (length ps) (omega arith) past))

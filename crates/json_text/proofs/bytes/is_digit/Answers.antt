@@ -4,4 +4,4 @@ use Rattle.json_text.proofs.Questions.{at_most, both}
 use Rattle.json_text.proofs.bytes.is_digit.Goals as goal
 
 pub returns : goal.returns
-returns c = both (at_most _ _) (at_most _ _)
+returns c = rw c.is_ascii_digit.ensures.value (both (at_most _ _) (at_most _ _))

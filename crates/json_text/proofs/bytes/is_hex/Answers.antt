@@ -22,6 +22,7 @@ from (hex_lower l u) = inr (l, u)
 
 pub returns : goal.returns
 returns c =
-    tells_as to from
+    rw c.is_ascii_hexdigit.ensures.value
+    (tells_as to from
     (either (either (both (at_most _ _) (at_most _ _)) (both (at_most _ _) (at_most _ _)))
-    (both (at_most _ _) (at_most _ _)))
+    (both (at_most _ _) (at_most _ _))))

@@ -1,28 +1,22 @@
 -- `json_text::number::some` meets its contract.
 -- Assumes nothing.
-use native.Mathlib.Omega.{arith}
+use Rattle.std.proofs.Common.{arith}
 use Rattle.json_text.specs.Grammar.{Digit}
 use Rattle.json_text.specs.Faults.SomeTo.{to_some}
 use Rattle.json_text.specs.Faults.NoSome.{some_bad}
 use Rattle.json_text.specs.Scans.Says.{says_past, says_broke}
-use Rattle.json_text.proofs.Laws.{here, not_here}
+use Rattle.json_text.proofs.Laws.{here, not_here, ended}
 use Rattle.json_text.proofs.number.some.Goals as goal
 
-pub digits-requires : goal.digits-requires
-digits-requires c =
-    let h =
-    here Digit (λ d. omega arith) c.peek.ensures c.is_digit.ensures
-    c.if-is_digit.true in
-    h.next
-
-pub returns-then-is_digit : goal.returns-then-is_digit
-returns-then-is_digit c =
-    let h = here Digit (λ d. omega arith) c.peek.ensures
-    c.is_digit.ensures c.if-is_digit.true in
+pub returns-in-Some : goal.returns-in-Some
+returns-in-Some c =
+    let h = here Digit (λ d. omega arith) c.in-Some.ensures c.is_digit.ensures c.if-is_digit.true in
     let d = c.digits.ensures in
     rw h.split (says_past d.within (_, to_some h.is d.run.1 d.stop))
 
-pub returns : goal.returns
-returns c =
-    says_broke c.requires
-    (some_bad (not_here Digit c.peek.ensures c.is_digit.ensures c.if-is_digit.false))
+pub returns-in_default : goal.returns-in_default
+returns-in_default c =
+    says_broke c.requires (some_bad (not_here Digit c.in-Some.ensures c.is_digit.ensures c.if-is_digit.false))
+
+pub returns-in_default-2 : goal.returns-in_default-2
+returns-in_default-2 c = says_broke c.requires (some_bad (ended c.peek.ensures c.in_default.is))

@@ -1,11 +1,10 @@
-use Prim.Native.Nat.{◌≤◌}
-use lib.ListN.{length}
-use Rattle.json_text.specs.declared.answer.Scan.{Scan}
+-- An answer for the digits that are left is one for all, from `at` on.
+use Rattle.std.proofs.Common.{◌+◌, ◌-◌, ◌≤◌, ℕ, Result, length}
+use Rattle.json_text.specs.declared.error.ScanError.{ScanError}
 use Rattle.json_text.specs.Scans.{HexSaid}
 use Rattle.json_text.proofs.string.hex.Given as goal
 
-abbrev pub invariant-loop-left : goal.invariant-loop-left
-invariant-loop-left l = (l.i ≤ length l.s) × ((o : Scan) → HexSaid l.s l.i l.left o → HexSaid l.s l.at l.count o)
-
-abbrev pub decreases-loop-left : goal.decreases-loop-left
-decreases-loop-left l = l.left
+abbrev pub invariant-loop-k : goal.invariant-loop-k
+invariant-loop-k l =
+    (l.at + l.k ≤ length l.s) ×
+    ((o : Result ℕ ScanError) → HexSaid l.s (l.at + l.k) (l.count - l.k) o → HexSaid l.s l.at l.count o)

@@ -1,24 +1,25 @@
 -- `json_text::token::peek` meets its contract.
 -- Assumes nothing.
-use Prim.Native.Nat.{◌<◌}
-use native.Mathlib.Omega.{arith}
-use lib.ListN.{length, get_or, drop_of_length-le}
-use lib.Seq.{drop-cons}
-use native.Mathlib.Numerals.{add-one}
+use Rattle.std.proofs.Common.{ℕ, ◌<◌, ◌≤◌, List, length, get_or, drop-cons, add-one, drop_of_length-le, arith}
+use Rattle.std.specs.Prelude.{Option, Some, None}
+use Rattle.std.specs.Option.{option_copied}
+use Rattle.std.specs.Slice.{IsItemAt}
+use denote.Ref.{Bor}
+use Rattle.json_text.specs.Results.{code}
+use Rattle.json_text.specs.Scans.{Peeks}
 use Rattle.json_text.specs.Scans.Peeks.{peeks_end, peeks_byte}
 use Rattle.json_text.proofs.token.peek.Goals as goal
 
-pub overflow_cast-result : goal.overflow_cast-result
-overflow_cast-result c = omega (arith, c.type_inv.s c.args.at)
+-- the element at a place, if there is one
+found : (s : List ℕ) (at : ℕ) (o : Option (Bor ℕ)) → IsItemAt s at o → at ≤ length s → get_or s at 0 < 256 →
+    Peeks s at (code (option_copied o))
+found s at None h l b = peeks_end (omega (arith, h.3)) (drop_of_length-le s {i = at} h.3)
+found s at (Some x) h l b =
+    let l : at < length s = h.3.0 in
+    rw (h.3.1 0) (peeks_byte l b (rw (add-one, drop-cons s at 0)))
 
-pub returns-then-at-s : goal.returns-then-at-s
-returns-then-at-s c =
+pub returns : goal.returns
+returns c =
     let a = c.args in
-    let h : a.at < length a.s.now = omega arith in
-    peeks_byte {b = get_or a.s.now a.at 0} (omega arith) (omega (arith, c.type_inv.s a.at))
-    (rw (add-one, drop-cons a.s.now a.at 0))
-
-pub returns-else-at-s : goal.returns-else-at-s
-returns-else-at-s c =
-    let a = c.args in
-    peeks_end (omega arith) (drop_of_length-le a.s.now {i = a.at} (omega arith))
+    rw c.copied.ensures
+    (found a.s.now a.at c.get.result c.get.ensures.lookup c.requires (omega (arith, c.type_inv.s a.at)))

@@ -1,38 +1,38 @@
--- `json_text::token::skip_ws` meets its contract. The loop's invariant: white space from `i` on is white space from `at` on.
+-- `json_text::token::skip_ws` meets its contract.
 -- Assumes nothing.
-use native.Mathlib.Omega.{arith}
-use Rattle.json_text.specs.Grammar.{IsWs}
+use Rattle.std.proofs.Common.{◌≡◌, length, arith}
+use Rattle.json_text.specs.Faults.Not.{not_end, not_head}
 use Rattle.json_text.specs.Grammar.Ws.{ws_none, ws_more}
-use Rattle.json_text.proofs.Laws.{here, not_here, ws_byte}
+use Rattle.json_text.proofs.Laws.{told, untold}
+use Rattle.json_text.proofs.Marks.{split, past}
 use Rattle.json_text.proofs.token.skip_ws.Goals as goal
 
-pub loop-i-init : goal.loop-i-init
-loop-i-init c = (omega arith, omega arith, λ r h. h)
-
-pub peek-requires : goal.peek-requires
-peek-requires c = omega arith
-
-pub overflow_add-i : goal.overflow_add-i
-overflow_add-i c =
-    let h = here IsWs ws_byte c.peek.ensures c.is_ws.ensures c.loop-i-test.true in
-    omega arith
-
-pub loop-i-smaller : goal.loop-i-smaller
-loop-i-smaller c =
-    let h = here IsWs ws_byte c.peek.ensures c.is_ws.ensures c.loop-i-test.true in
-    omega arith
+pub returns-then-not-is_ws : goal.returns-then-not-is_ws
+returns-then-not-is_ws c =
+    let l = c.loop-i in
+    record {
+      from = omega arith;
+      within = l.invariant.0;
+      run = l.invariant.1 _ ws_none;
+      stop = rw (split c.args.s.now l.i c.loop-i-test.true) (not_head (untold c.is_ws.ensures c.if-not-is_ws.true));
+    }
 
 pub loop-i-preserved : goal.loop-i-preserved
 loop-i-preserved c =
-    let h = here IsWs ws_byte c.peek.ensures c.is_ws.ensures c.loop-i-test.true in
-    (omega arith, omega arith, λ r m. c.loop-i.invariant.2 r (rw h.split (ws_more h.is m)))
+    let l = c.loop-i in (
+      omega arith,
+      λ r m. l.invariant.1 r
+          (rw (split c.args.s.now l.i c.loop-i-test.true) (ws_more (told c.is_ws.ensures c.if-not-is_ws.false) m)),
+    )
 
 pub returns : goal.returns
 returns c =
-    let inv = c.loop-i.invariant in
-    record {
-      from = inv.0;
-      within = inv.1;
-      run = inv.2 _ ws_none;
-      stop = not_here IsWs c.peek.ensures c.is_ws.ensures c.loop-i-test.false;
-    }
+    let l = c.loop-i in
+    let e : l.i ≡ length c.args.s.now = omega arith in
+    rw (← e)
+    (record {
+      from = omega arith;
+      within = l.invariant.0;
+      run = l.invariant.1 _ ws_none;
+      stop = rw (past c.args.s.now l.i (omega arith)) not_end;
+    })

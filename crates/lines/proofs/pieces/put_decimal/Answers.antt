@@ -1,43 +1,30 @@
 -- `lines::pieces::put_decimal` meets its contract. What is left to store, stored, gives the whole run. Assumes nothing.
-use Prim.Native.Nat.{◌/◌}
-use mathlib.Core.Path.{refl, ◌∙◌}
+use Prim.Native.Nat.{ℕ, suc, ◌+◌, ◌-◌}
+use mathlib.Core.Path.{◌≡◌, refl, ◌∙◌}
 use native.Mathlib.Omega.{arith}
-use lib.ListN.{length-set}
-use Rattle.lines.proofs.Digits.{width_some, width_large}
-use Rattle.lines.proofs.Stores.{digits_next, digits_first}
+use lib.ListN.{length, length-set}
+use Rattle.lines.specs.Decimal.{decimal_of}
+use Rattle.lines.proofs.Digits.{padded_none, padded_decimal}
+use Rattle.lines.proofs.Stores.{digits_next}
 use Rattle.lines.proofs.pieces.put_decimal.Goals as goal
 
-pub overflow_sub-i : goal.overflow_sub-i
-overflow_sub-i c = omega (arith, width_some c.args.n)
-
-pub loop-rest-init : goal.loop-rest-init
-loop-rest-init c =
-    let s = width_some c.args.n in
-    (omega arith, omega arith, omega arith, refl, refl)
-
-pub overflow_sub-i-in-loop-rest : goal.overflow_sub-i-in-loop-rest
-overflow_sub-i-in-loop-rest c =
-    let l = c.loop-rest in
-    omega (arith, width_large l.rest c.loop-rest-test.true, width_some (l.rest / 10))
-
-pub loop-rest-preserved : goal.loop-rest-preserved
-loop-rest-preserved c =
-    let l = c.loop-rest in
+pub loop-i-init : goal.loop-i-init
+loop-i-init c =
     let a = c.args in
-    let w = width_large l.rest c.loop-rest-test.true in
-    let s = width_some (l.rest / 10) in (
-      omega arith,
-      omega arith,
-      omega arith,
-      simp length-set l.invariant.3,
-      digits_next l.out a.at l.i l.rest c.loop-rest-test.true l.invariant.0 ∙ l.invariant.4,
-    )
+    let k : a.at + c.width.result - a.at ≡ length (decimal_of a.n) = omega (arith, c.width.ensures.0) in
+    (refl, rw (k, padded_decimal (length (decimal_of a.n)) a.n refl))
+
+pub loop-i-preserved : goal.loop-i-preserved
+loop-i-preserved c =
+    let l = c.loop-i in
+    let at = c.args.at in
+    let k : ℕ = l.i - 1 - at in
+    let e : l.i - at ≡ suc k = omega arith in
+    (simp length-set l.invariant.0, digits_next l.out at (l.i - 1) k l.rest (omega arith) ∙ rw (← e) l.invariant.1)
 
 pub returns : goal.returns
 returns c =
-    let l = c.loop-rest in
-    let a = c.args in
-    record {
-      ends = omega arith;
-      stored = digits_first l.out a.at l.i l.rest c.loop-rest-test.false l.invariant.0 ∙ l.invariant.4;
-    }
+    let l = c.loop-i in
+    let at = c.args.at in
+    let k : l.i - at ≡ 0 = omega arith in
+    record { ends = omega (arith, c.width.ensures.0); stored = rw (k, padded_none) at l.invariant.1 }

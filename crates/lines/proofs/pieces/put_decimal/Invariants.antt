@@ -1,16 +1,11 @@
-use Prim.Native.Nat.{◌+◌, ◌≤◌, ◌<◌}
+use Prim.Native.Nat.{◌-◌}
 use mathlib.Core.Path.{◌≡◌}
 use lib.ListN.{length}
 use lib.Seq.{sets}
 use Rattle.lines.specs.Decimal.{decimal_of}
+use Rattle.lines.proofs.Digits.{padded}
 use Rattle.lines.proofs.pieces.put_decimal.Given as goal
 
-abbrev pub invariant-loop-rest : goal.invariant-loop-rest
-invariant-loop-rest l = (l.i + 1 ≡ l.at + length (decimal_of l.rest))
-    × (l.i < length l.initial.out)
-    × (l.rest ≤ l.n)
-    × (length l.out ≡ length l.initial.out)
-    × (sets l.out l.at (decimal_of l.rest) ≡ sets l.initial.out l.at (decimal_of l.n))
-
-abbrev pub decreases-loop-rest : goal.decreases-loop-rest
-decreases-loop-rest l = l.rest
+abbrev pub invariant-loop-i : goal.invariant-loop-i
+invariant-loop-i l =
+    (length l.out ≡ length l.initial.out) × (sets l.out l.at (padded (l.i - l.at) l.rest) ≡ sets l.initial.out l.at (decimal_of l.n))

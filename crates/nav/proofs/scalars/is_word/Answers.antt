@@ -1,32 +1,16 @@
 -- `nav::scalars::is_word` meets its contract.
 -- Assumes nothing.
-use native.Mathlib.Omega.{arith}
 use borrow.Author.Rules.{rules}
-use mathlib.Core.Path.{refl, sym, ◌∙◌}
-use Rattle.nav.proofs.Spellings.{plains_on, plains_off, plains_end}
+use mathlib.Core.Path.{sym, ◌∙◌}
+use Rattle.std.proofs.lemmas.Iterator.{YieldsList-from_slice}
+use Rattle.std.proofs.lemmas.Iterator.Search.{all_from_yields_List}
+use Rattle.std.proofs.Common.{tests}
+use Rattle.json_text.specs.Strings.{plain}
+use Rattle.nav.proofs.Spellings.{plains_all}
 use Rattle.nav.proofs.scalars.is_word.Goals as goal
 
-pub loop-k-init : goal.loop-k-init
-loop-k-init c = (omega arith, refl)
-
-pub overflow_cast-word : goal.overflow_cast-word
-overflow_cast-word c = omega (arith, c.type_inv.word c.loop-k.k)
-
-pub loop-k-smaller : goal.loop-k-smaller
-loop-k-smaller c = omega arith
-
-pub loop-k-preserved : goal.loop-k-preserved
-loop-k-preserved c =
-    let e = plains_on c.args.word.now
-    c.loop-k.k (omega arith) c.is_plain.ensures (search rules) in
-    (omega arith, c.loop-k.invariant.1 ∙ e)
-
-pub returns-else-is_plain : goal.returns-else-is_plain
-returns-else-is_plain c =
-    let e = plains_off c.args.word.now
-    c.loop-k.k (omega arith) c.is_plain.ensures c.if-is_plain.false in
-    sym (c.loop-k.invariant.1 ∙ e)
-
 pub returns : goal.returns
-returns c = sym (c.loop-k.invariant.1 ∙ plains_end c.args.word.now
-    c.loop-k.k (omega arith))
+returns c =
+    let w = c.args.word.now in
+    all_from_yields_List plain _ _ _ c.all.ensures.ran (YieldsList-from_slice w cc) (λ x b q k. search (rules, tests)) ∙
+    sym (plains_all w)

@@ -1,67 +1,37 @@
 -- `nav::scalars::quotes` meets its contract.
 -- Assumes nothing.
-use mathlib.Core.Path.{refl}
-use native.Mathlib.Omega.{arith}
 use Prim.Native.Nat.{◌+◌}
 use Rattle.json_text.specs.Scans.Tells.{tells_false}
-use Rattle.json_text.proofs.Laws.{said_past, said_broke, said_deep}
+use Rattle.json_text.proofs.Laws.{said_past}
 use Rattle.json_text.proofs.Ends.{literal_said}
+use Rattle.nav.proofs.Scanned.{failed, is_byte, no_byte, not_true, not_false}
 use Rattle.nav.proofs.Steps.{front_here, front_other}
 use Rattle.nav.proofs.Spellings.{unquoted, misspelled, unmarked, quoted_tells}
 use Rattle.nav.proofs.scalars.quotes.Goals as goal
 
-pub overflow_add-inside : goal.overflow_add-inside
-overflow_add-inside c =
-    let h = front_here 0x22 c.args.s.now
-    c.args.at c.front.ensures
-    c.if-front-eq34.true (omega arith) in
-    omega (arith, h.next)
+pub returns-then-ne : goal.returns-then-ne
+returns-then-ne c =
+    tells_false (λ q. unmarked (front_other 0x22 _ c.front.ensures (no_byte _ 0x22 (not_true _ c.ne.ensures c.if-ne.true))) q)
 
-pub returns-then-front-eq34-2 : goal.returns-then-front-eq34-2
-returns-then-front-eq34-2 c =
-    let h = front_here 0x22
-    c.args.s.now
-    c.args.at
-    c.front.ensures
-    c.if-front-eq34.true (omega arith) in
-    let k = front_here 0x22
-    c.args.s.now
-    c.in-Past.p c.front-in-Past.ensures
-    c.if-front-eq34-2.true
-    (omega arith) in
-    let v = said_past (literal_said c.args.s.now (c.args.at + 1) c.args.word.now c.in-Past.ensures)
-    refl in
+pub returns-in_default : goal.returns-in_default
+returns-in_default c =
+    let a = c.args in
+    let h = front_here 0x22 a.s.now a.at c.front.ensures (is_byte _ 0x22 (not_false _ c.ne.ensures c.if-ne.false)) in
+    let v = failed (literal_said a.s.now (a.at + 1) a.word.now c.literal_at.ensures) c.in_default.is in
+    tells_false (λ q. misspelled v.2 (rw h.split at q))
+
+pub returns-then-eq : goal.returns-then-eq
+returns-then-eq c =
+    let a = c.args in
+    let h = front_here 0x22 a.s.now a.at c.front.ensures (is_byte _ 0x22 (not_false _ c.ne.ensures c.if-ne.false)) in
+    let k = front_here 0x22 a.s.now c.in-Ok.p c.front-2.ensures (is_byte _ 0x22 (rw c.eq.ensures at c.if-eq.true)) in
+    let v = said_past (literal_said a.s.now (a.at + 1) a.word.now c.literal_at.ensures) c.in-Ok.is in
     rw h.split (quoted_tells (rw k.split at v.1) c.is_word.ensures)
 
-pub returns-in-Past : goal.returns-in-Past
-returns-in-Past c =
-    let h = front_here 0x22
-    c.args.s.now
-    c.args.at
-    c.front.ensures
-    c.if-front-eq34.true (omega arith) in
-    let v = said_past (literal_said c.args.s.now (c.args.at + 1) c.args.word.now c.in-Past.ensures)
-    refl in
-    let f = front_other 0x22 _ c.front-in-Past.ensures c.if-front-eq34-2.false in
-    tells_false (λ q. unquoted v.1 f (rw h.split at q))
-
-pub returns-in-Broke : goal.returns-in-Broke
-returns-in-Broke c =
-    let h = front_here 0x22 c.args.s.now
-    c.args.at
-    c.front.ensures
-    c.if-front-eq34.true (omega arith) in
-    let v = said_broke (literal_said c.args.s.now (c.args.at + 1) c.args.word.now c.in-Broke.ensures) refl in
-    tells_false (λ q. misspelled v.1 (rw h.split at q))
-
-pub returns-in-Deep : goal.returns-in-Deep
-returns-in-Deep c =
-    let h = front_here 0x22 c.args.s.now
-    c.args.at
-    c.front.ensures
-    c.if-front-eq34.true (omega arith) in
-    let v = said_deep (literal_said c.args.s.now (c.args.at + 1) c.args.word.now c.in-Deep.ensures) refl in
-    tells_false (λ q. misspelled v.1 (rw h.split at q))
-
-pub returns : goal.returns
-returns c = tells_false (λ q. unmarked (front_other 0x22 _ c.front.ensures c.if-front-eq34.false) q)
+pub returns-else-eq : goal.returns-else-eq
+returns-else-eq c =
+    let a = c.args in
+    let h = front_here 0x22 a.s.now a.at c.front.ensures (is_byte _ 0x22 (not_false _ c.ne.ensures c.if-ne.false)) in
+    let v = said_past (literal_said a.s.now (a.at + 1) a.word.now c.literal_at.ensures) c.in-Ok.is in
+    let f = front_other 0x22 _ c.front-2.ensures (no_byte _ 0x22 (rw c.eq.ensures at c.if-eq.false)) in
+    rw c.if-eq.false (tells_false (λ q. unquoted v.1 f (rw h.split at q)))

@@ -1,19 +1,20 @@
-use Rattle.tables.proofs.Faults.{fault_early, fault_late, fault_dense}
+use mathlib.Core.Path.{sym, ◌∙◌}
+use Rattle.std.proofs.lemmas.Result.{err_from_is_err_and}
+use Rattle.tables.proofs.Faults.{answer_early, answer_late, answer_dense}
 use Rattle.tables.proofs.accessors.accessor_fault.Goals as goal
 
-pub returns-then-fault-lt34 : goal.returns-then-fault-lt34
-returns-then-fault-lt34 c =
-    fault_early _ _ _ _ _ _ _ (rw c.layout_of-l.ensures at c.element_fault-fault.ensures)
-    c.if-fault-lt34.true
+pub returns-in_err-element_fault : goal.returns-in_err-element_fault
+returns-in_err-element_fault c =
+    let p = err_from_is_err_and c.from_residual.result c.from_residual.ensures.1 in
+    let e = sym c.in_err-element_fault.was ∙ (rw c.layout_of-l.ensures at c.element_fault.ensures) in
+    rw (p.1, p.2) (answer_early _ _ _ _ _ _ _ e)
 
 pub returns-then-a : goal.returns-then-a
 returns-then-a c =
-    let e = c.layout_of-l.ensures in
-    fault_late _ _ _ _ _ _ _ _ (rw e at c.element_fault-fault.ensures)
-    c.if-fault-lt34.false (rw e at c.sparse_fault.ensures)
+    let e = sym c.in_ok-element_fault.was ∙ (rw c.layout_of-l.ensures at c.element_fault.ensures) in
+    c.broken_if.ensures ∙ rw (c.sparse_fault-rule.ensures, c.layout_of-l.ensures) (answer_late _ _ _ _ _ _ _ e)
 
-pub returns : goal.returns
-returns c =
-    fault_dense _ _ _ _ _ _ _
-    (rw c.layout_of-l.ensures at c.element_fault-fault.ensures)
-    c.if-fault-lt34.false c.if-a.false
+pub returns-else-a : goal.returns-else-a
+returns-else-a c =
+    let e = sym c.in_ok-element_fault.was ∙ (rw c.layout_of-l.ensures at c.element_fault.ensures) in
+    answer_dense _ _ _ _ _ _ _ e c.if-a.false

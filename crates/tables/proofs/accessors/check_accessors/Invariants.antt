@@ -1,10 +1,9 @@
-use Prim.Native.Nat.{◌-◌, ◌≤◌}
-use Rattle.laws.proofs.OnePass.{Seen}
+use mathlib.Core.Path.{◌≡◌}
+use Rattle.tables.specs.Findings.{finding_of}
 use Rattle.tables.specs.Accessors.{accessor_broken}
+use Rattle.tables.specs.Results.{outcome_of}
 use Rattle.tables.proofs.accessors.check_accessors.Given as goal
 
 abbrev pub invariant-loop-i : goal.invariant-loop-i
-invariant-loop-i l = (l.i ≤ l.n) × Seen (accessor_broken l.views l.view_records l.records l.placed) 25 15 l.i l.rule l.item
-
-abbrev pub decreases-loop-i : goal.decreases-loop-i
-decreases-loop-i l = l.n - l.i
+invariant-loop-i l =
+    l.found ≡ outcome_of (finding_of (accessor_broken l.views l.view_records l.records l.placed) 25 15 l.i)

@@ -31,6 +31,6 @@ returns c =
     let a = c.args in
     let t = some_type a.element_type c.if-element_type.false in
     let next : a.element_type - 1 + 1 ≡ a.element_type = omega arith in
-    c.wide.ensures
+    c.from.ensures
     ∙ table_rule a.size (a.element_type - 1) (size_below a.size c.requires) (some_size a.size c.requires c.if-size-eq0.false) (omega arith)
     ∙ ap (λ (n : ℕ). element_bytes a.size n) next

@@ -1,25 +1,85 @@
 -- `document::records::sparse::values_at` meets its contract.
 -- Assumes nothing.
-use Rattle.nav.proofs.Navigation.{gather_says, gather_tree, at_some, at_none}
-use Rattle.document.proofs.Objects.{object_past}
+use mathlib.Core.Path.{refl}
+use native.Mathlib.Omega.{arith}
+use Rattle.nav.specs.Members.{field_of}
+use Rattle.nav.proofs.Navigation.{gather_past, gather_member}
 use Rattle.document.specs.Sparse.{values_member}
+use Rattle.document.specs.Names.{'bufferView', 'byteOffset'}
+use Rattle.document.proofs.Placing.{at_some, at_none, past_ok, past_err}
+use Rattle.document.proofs.Keeping.{unfit, kept_ok, kept_err, failed, number_value}
 use Rattle.document.proofs.records.sparse.values_at.Goals as goal
 
-pub returns-then-at-eq0 : goal.returns-then-at-eq0
+pub returns-in_default : goal.returns-in_default
 unfolding values_member
-returns-then-at-eq0 c = λ o t. rw (at_none t c.if-at-eq0.true)
+returns-in_default c = λ o t. rw (at_none t c.in_default.is) refl
+
+pub returns-in_err-ok_or : goal.returns-in_err-ok_or
+unfolding values_member
+returns-in_err-ok_or c =
+    let s = c.args.s.now in
+    let at = c.in-Some.at in
+    let e = c.gather.ensures in
+    let x = past_err (gather_past s at _ e) unfit c.ok_or.ensures.value c.in_err-ok_or.was in
+    λ o h.
+    let g = at_some h c.in-Some.is in
+    let j = g.0 in
+    let t = g.2 in
+    rw (
+      g.1,
+      x j t,
+    )
+    (failed c.from_residual.ensures.0)
+
+pub returns-in_err-buffer_view : goal.returns-in_err-buffer_view
+unfolding values_member
+returns-in_err-buffer_view c =
+    let s = c.args.s.now in
+    let at = c.in-Some.at in
+    let e = c.gather.ensures in
+    let x = past_ok (gather_past s at _ e) unfit c.ok_or.ensures.value c.in_ok-ok_or.was in
+    λ o h.
+    let g = at_some h c.in-Some.is in
+    let j = g.0 in
+    let t = g.2 in
+    rw (
+      g.1,
+      x.2 j t,
+      kept_err _ (c.required.ensures (field_of 'bufferView' j) (gather_member s at _ e t 0 (omega arith) (omega arith))) c.in_err-buffer_view.was,
+    )
+    (failed c.from_residual-in_err-buffer_view.ensures.0)
+
+pub returns-in_err-byte_offset : goal.returns-in_err-byte_offset
+unfolding values_member
+returns-in_err-byte_offset c =
+    let s = c.args.s.now in
+    let at = c.in-Some.at in
+    let e = c.gather.ensures in
+    let x = past_ok (gather_past s at _ e) unfit c.ok_or.ensures.value c.in_ok-ok_or.was in
+    λ o h.
+    let g = at_some h c.in-Some.is in
+    let j = g.0 in
+    let t = g.2 in
+    rw (
+      g.1,
+      x.2 j t,
+      (kept_ok (c.required.ensures (field_of 'bufferView' j) (gather_member s at _ e t 0 (omega arith) (omega arith))) c.in_ok-buffer_view.was).0,
+      kept_err _ (c.optional.ensures (field_of 'byteOffset' j) (gather_member s at _ e t 1 (omega arith) (omega arith))) c.in_err-byte_offset.was,
+    )
+    (failed c.from_residual-in_err-byte_offset.ensures.0)
 
 pub returns : goal.returns
 unfolding values_member
-returns c = λ o t.
-    let x = at_some t c.if-at-eq0.false in
+returns c =
     let s = c.args.s.now in
-    let at = c.args.at in
-    let g = c.gather-places.ensures in
-    let m = gather_tree s at g x.2 in
-    rw (
-      x.1,
-      ← object_past (gather_says s at g).end x.2,
-      ← c.integer-view.ensures _ m.fa,
-      ← c.integer-offset.ensures _ m.fb,
-    )
+    let at = c.in-Some.at in
+    let e = c.gather.ensures in
+    let x = past_ok (gather_past s at _ e) unfit c.ok_or.ensures.value c.in_ok-ok_or.was in
+    λ o h.
+    let g = at_some h c.in-Some.is in
+    let j = g.0 in
+    let t = g.2 in
+    let k0 = kept_ok (c.required.ensures (field_of 'bufferView' j) (gather_member s at _ e t 0 (omega arith) (omega arith))) c.in_ok-buffer_view.was in
+    let k1 = kept_ok (c.optional.ensures (field_of 'byteOffset' j) (gather_member s at _ e t 1 (omega arith) (omega arith))) c.in_ok-byte_offset.was in
+    let n1 = number_value (field_of 'byteOffset' j) k1.1 in
+    rw (g.1, x.2 j t, k0.0, k1.0, k0.1, ← n1.0, c.unwrap_or.ensures) refl
