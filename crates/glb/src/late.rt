@@ -5,7 +5,7 @@ ghost use Rattle.graph.specs.Results.{fault_of, outcome_of as graph_outcome};
 ghost use Rattle.tables.specs.Results.{outcome_of};
 ghost use Rattle.glb.specs.Check.{buffer_finding, scene_finding, late_finding};
 
-use container::{Chunk, Container};
+use container::Container;
 use data::buffer::buffer_rule;
 use data::sparse::sparse_rule;
 use graph::verdict::Fault;
@@ -21,11 +21,10 @@ fn check_buffer(file: &[u8], c: Container, buffers: u32, byte_length: u32) -> Re
     if buffers == 0 {
         return Ok(());
     }
-    let bin = c.bin.unwrap_or(Chunk {
-        start: 0,
-        length: 0,
-    });
-    buffer_rule(file, byte_length, c.bin.is_some(), bin.start, bin.length)
+    match c.bin {
+        Some(bin) => buffer_rule(file, byte_length, true, bin.start, bin.length),
+        None => buffer_rule(file, byte_length, false, 0, 0),
+    }
 }
 
 // Rule 47: `scene` is there and not below the number of scenes.

@@ -1,18 +1,21 @@
 // `check`: the tables of any bytes, or the smallest of rules 1 to 47 that they break.
 #![tactic(auto)]
 
-ghost use Rattle.std.specs.Prelude.{◌≡◌, ◌<◌};
+ghost use Rattle.std.specs.Prelude.{◌≡◌, ◌<◌, Ok};
+ghost use Rattle.container.specs.Results.{record_of};
 ghost use Rattle.glb.specs.Check.{placed_at, check_of};
 ghost use Rattle.glb.specs.Results.{outcome_of, checked_of};
 
 use crate::late::late_rule;
-use container::Chunk;
+use container::Container;
 use tables::Tables;
 use tables::finding::Finding;
 
 mod late;
 
 // The smallest rule that the file breaks, with the smallest item that breaks it, 0 where no item is named.
+// Stays: the rule by its number, as in the layers; and the same two fields as container's Fault and tables' Finding, since each layer
+// has an error of its own and none of these crates stands on another for it.
 // Stays: rules are numbers, as in the rule table, in `check_of` and in the verdict that C gets.
 #[derive(Clone, Copy, Debug, PartialEq, Eq)]
 pub struct Fault {
@@ -94,6 +97,17 @@ fn place_buffer(tables: Tables, start: usize) -> Tables
     placed
 }
 
+// Where the BIN chunk's data start, 0 without such a chunk.
+#[tactic(auto, unfolding(container::specs::Results::record_of))]
+fn bin_start(c: Container) -> usize
+    ensures { result ≡ (record_of (Ok c)).bin_start }
+{
+    match c.bin {
+        Some(bin) => bin.start,
+        None => 0,
+    }
+}
+
 // Rules 1 to 47 in their order.
 pub fn check(file: &[u8]) -> Result<Tables, Fault>
     ensures { result ≡ outcome_of (check_of file.now) }
@@ -101,11 +115,7 @@ pub fn check(file: &[u8]) -> Result<Tables, Fault>
     let c = container::open(file)?;
     let end = c.json.start + c.json.length;
     let d = document::read(&file[c.json.start..end])?;
-    let bin = c.bin.unwrap_or(Chunk {
-        start: 0,
-        length: 0,
-    });
-    let tables = place_buffer(d.tables, bin.start);
+    let tables = place_buffer(d.tables, bin_start(c));
     late_rule(file, c, tables, d.placed, d.graph)?;
     Ok(tables)
 }

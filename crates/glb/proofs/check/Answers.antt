@@ -50,7 +50,7 @@ pub place_buffer-tables-requires : goal.place_buffer-tables-requires
 unfolding record_of
 place_buffer-tables-requires c =
     let w = within (goal.at.place_buffer-tables-requires c).In_ok-c in
-    let s = c.unwrap_or-bin.ensures in
+    let s = c.bin_start.ensures in
     rw s (omega (arith, w.size, w.bin))
 
 -- the tables are the definition's
@@ -60,7 +60,7 @@ unfolding record_of
 tables-are c =
     let at = goal.at.After-place_buffer-tables c in
     c.place_buffer-tables.ensures
-    ∙ tables_laid c.args.file.now c.in_ok-c.c (fine at.In_ok-c) c.in_ok-d.d (said at.In_ok-d) c.unwrap_or-bin.result.start (rw c.unwrap_or-bin.ensures)
+    ∙ tables_laid c.args.file.now c.in_ok-c.c (fine at.In_ok-c) c.in_ok-d.d (said at.In_ok-d) c.bin_start.result (rw c.bin_start.ensures)
 
 pub late_rule-requires-clause-graph_answer : goal.late_rule-requires-clause-graph_answer
 late_rule-requires-clause-graph_answer c =

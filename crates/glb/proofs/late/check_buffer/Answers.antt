@@ -8,6 +8,10 @@ pub returns-then-buffers-eq0 : goal.returns-then-buffers-eq0
 unfolding buffer_finding
 returns-then-buffers-eq0 c = rw (eq-eqb _ 0 c.if-buffers-eq0.true)
 
-pub returns : goal.returns
+pub returns-in-Some : goal.returns-in-Some
 unfolding buffer_finding record_of
-returns c = rw (ne_eqb _ 0 c.if-buffers-eq0.false, c.buffer_rule.ensures, c.is_some.ensures, c.unwrap_or-bin.ensures)
+returns-in-Some c = rw (c.in-Some.is, ne_eqb _ 0 c.if-buffers-eq0.false) c.buffer_rule.ensures
+
+pub returns-in-None : goal.returns-in-None
+unfolding buffer_finding record_of
+returns-in-None c = rw (c.in-None.is, ne_eqb _ 0 c.if-buffers-eq0.false) c.buffer_rule-in-None.ensures
