@@ -11,4 +11,4 @@ kids_of_tree tree = kids_in tree.starts.now tree.lengths.now tree.children.now
 
 -- the nodes in listed order, each with all under it, down to so many levels
 abbrev pub order_from : Nodes → ℕ → List ℕ
-order_from nodes levels = scene_order (kids_of_tree nodes.tree) levels nodes.list.now
+order_from nodes levels = scene_order (kids_of_tree nodes.tree.now) levels nodes.list.now

@@ -65,6 +65,7 @@ impl From<Result<usize, Refusal>> for Walked {
 }
 
 // How many nodes of the scene were written into the list. Refused, the list is unchanged; entries past the count stay.
+// Stays: children and roots are copied out. Where they were lent from `t` itself, a walk copied all of the tables.
 pub fn walk(t: Tables, scene: u32, list: &mut [u16]) -> Result<usize, Refusal>
     ensures { (walked_of result ≡ (walk_of t scene list.old).walked)
         × (list.new ≡ (walk_of t scene list.old).list) }
@@ -72,10 +73,12 @@ pub fn walk(t: Tables, scene: u32, list: &mut [u16]) -> Result<usize, Refusal>
     let over = (1 < t.buffers) | (64 < t.views) | (128 < t.accessors);
     let nodes = Places::from(t.node_lists);
     let scenes = Places::from(t.scene_lists);
+    let children = t.children;
+    let roots = t.roots;
     walk_packed(
         over,
-        nodes.packed(&t.children, t.nodes as usize),
-        scenes.packed(&t.roots, t.scenes as usize),
+        nodes.packed(&children, t.nodes as usize),
+        scenes.packed(&roots, t.scenes as usize),
         scene as usize,
         list,
     )

@@ -33,7 +33,7 @@ fn walk_lists<'a>(
     let start = scenes.starts[scene] as usize;
     let end = start + (scenes.lengths[scene] as usize);
     let roots = Nodes {
-        tree,
+        tree: &tree,
         list: &scenes.entries[start..end],
     };
     roots.walk(128, list)

@@ -7,9 +7,9 @@ use crate::tree::Nodes;
 impl<'a> Nodes<'a> {
     // The children of a node.
     pub(crate) fn children_of(&self, node: u16) -> Nodes<'a>
-        requires { node < length self.now.tree.starts.now }
+        requires { node < length self.now.tree.now.starts.now }
         ensures { (result.tree ≡ self.now.tree)
-            × (result.list.now ≡ get_or (kids_of_tree self.now.tree) node []) }
+            × (result.list.now ≡ get_or (kids_of_tree self.now.tree.now) node []) }
     {
         let tree = self.tree;
         let start = tree.starts[node as usize] as usize;

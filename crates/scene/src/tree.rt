@@ -12,9 +12,10 @@ pub(crate) struct Tree<'a> {
 }
 
 // A list of nodes of the tree: a scene's roots, or a node's children.
+// Stays: the tree by reference. A walk has such a list on each level; with the tree in it a level took 128 bytes of stack, not 96.
 #[derive(Clone, Copy)]
 pub(crate) struct Nodes<'a> {
-    pub tree: Tree<'a>,
+    pub tree: &'a Tree<'a>,
     pub list: &'a [u16],
-    pub ghost rooted: { Rooted tree.starts.now list.now },
+    pub ghost rooted: { Rooted tree.now.starts.now list.now },
 }

@@ -12,4 +12,4 @@ decreases-size l = l.left
 
 abbrev pub invariant-loop-node : goal.invariant-loop-node
 invariant-loop-node l =
-    l.count ≡ min l.cap (length (so_far (preorder (kids_of_tree l.self.tree) l.left) l.self.list.now 0 l.node-index))
+    l.count ≡ min l.cap (length (so_far (preorder (kids_of_tree l.self.tree.now) l.left) l.self.list.now 0 l.node-index))

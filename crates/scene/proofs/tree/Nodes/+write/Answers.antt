@@ -12,10 +12,10 @@ use Rattle.scene.proofs.tree.Nodes.+write.Goals as goal
 -- there is room for node i and all under it
 room : (self : Nodes) (left : ℕ) (deep : 0 < left) (at next n i : ℕ) → at + length (order_from self left) ≤ n
     → i < length self.list.now
-    → next ≡ at + length (found (kids_of_tree self.tree) left deep self.list.now i)
-    → next + 1 + length (under (kids_of_tree self.tree) left deep self.list.now i) ≤ n
+    → next ≡ at + length (found (kids_of_tree self.tree.now) left deep self.list.now i)
+    → next + 1 + length (under (kids_of_tree self.tree.now) left deep self.list.now i) ≤ n
 room self left deep at next n i h l e =
-    let kids = kids_of_tree self.tree in
+    let kids = kids_of_tree self.tree.now in
     omega (
       arith,
       h,

@@ -13,5 +13,5 @@ decreases-write l = l.left
 
 abbrev pub invariant-loop-node : goal.invariant-loop-node
 invariant-loop-node l =
-    let done = so_far (preorder (kids_of_tree l.self.tree) l.left) l.self.list.now 0 l.node-index in
+    let done = so_far (preorder (kids_of_tree l.self.tree.now) l.left) l.self.list.now 0 l.node-index in
     (l.next ≡ l.at + length done) × (l.list ≡ written l.initial.list l.at done)

@@ -8,7 +8,7 @@ use Rattle.scene.proofs.tree.Nodes.children_of.Goals as goal
 
 pub returns : goal.returns
 returns c =
-    let tree = c.args.self.now.tree in
+    let tree = c.args.self.now.tree.now in
     let start = get_or tree.starts.now c.args.node 0 in
     let size = get_or tree.lengths.now c.args.node 0 in
     let e : start + size - start ≡ size = omega arith in (
