@@ -12,6 +12,7 @@ use utf8::NotUtf8;
 // The smallest of the rules 9 to 13 that a chunk breaks, and the place in the chunk where it is broken.
 // 8: the chunk is longer than 65,536 bytes, and no other rule is looked at; the place is 0.
 // Stays: the rule is its number in the rule table, which the definitions and theorems name and C gets as the verdict.
+#[repr(C)]
 #[derive(Clone, Copy, Debug, PartialEq, Eq)]
 pub struct Fault {
     pub number: u32,

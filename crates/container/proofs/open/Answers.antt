@@ -1,5 +1,5 @@
 use Prim.Native.Nat.{◌+◌, ◌≤◌}
-use mathlib.Core.Path.{◌≡◌, sym, ◌∙◌}
+use mathlib.Core.Path.{◌≡◌, refl, sym, ◌∙◌}
 use native.Mathlib.Omega.{arith}
 use lib.ListN.{length}
 use Rattle.std.proofs.lemmas.Grind.{common_steps}
@@ -63,6 +63,10 @@ json-is c =
     let e = json_length f b.0 (filled (goal.at.After-data_of-json c).Else-found-file) in
     c.data_of-json.ensures ∙ rw e
 
+-- so its length in the record is its length in the file
+length-is : (c : After-data_of-json) → c.data_of-json.result.length ≡ (chunk_at c.args.file.now 0).chunk_length
+length-is c = let e = json-is c in rw e refl
+
 pub returns-then-json-gt65536 : goal.returns-then-json-gt65536
 returns-then-json-gt65536 c =
     let at = goal.at.returns-then-json-gt65536 c in
@@ -83,4 +87,4 @@ returns c =
     let at = goal.at.returns c in
     rw (json-is at.After-data_of-json, c.bin_chunk.ensures)
     (open_ok c.args.file.now (holds at.In_ok-check_header) c.survey-found.result c.survey-found.ensures (filled at.Else-found-file)
-    (right-here at.In_default) (placed-here at.In_default-wrong_bin) (rw (json-is at.After-data_of-json) at c.if-json-gt65536.false))
+    (right-here at.In_default) (placed-here at.In_default-wrong_bin) (omega (arith, length-is at.After-data_of-json)))
