@@ -3,8 +3,9 @@
 // length); two walks (number, count, nodes).
 #![tactic(auto)]
 
-use access::Place;
+use access::{Place, Reading};
 use glb::Checked;
+use scene::Walked;
 use std::io;
 use std::io::{Read, Write};
 use tables::Tables;
@@ -35,17 +36,17 @@ fn component(
     place: u32,
     out: &mut impl Write,
 ) -> io::Result<()> {
-    match access::component(file, t, accessor, element, place) {
-        Ok(value) => write!(out, " | 0 {value}"),
-        Err(refusal) => write!(out, " | {} 0", refusal.number()),
-    }
+    let reading = access::component(file, t, accessor, element, place);
+    let Reading { number, value } = reading.into();
+    write!(out, " | {number} {value}")
 }
 
 fn view(file: &[u8], t: Tables, view: u32, out: &mut impl Write) -> io::Result<()> {
-    match access::view_place(file, t, view) {
-        Ok(Place { start, length }) => write!(out, " | 0 {start} {length}"),
-        Err(refusal) => write!(out, " | {} 0 0", refusal.number()),
-    }
+    let (number, start, length) = match access::view_place(file, t, view) {
+        Ok(Place { start, length }) => (0, start, length),
+        Err(refusal) => (refusal.number(), 0, 0),
+    };
+    write!(out, " | {number} {start} {length}")
 }
 
 // The first so many entries of a list, or all of them.
@@ -57,13 +58,9 @@ fn entries(list: &[u16], count: usize, out: &mut impl Write) -> io::Result<()> {
 }
 
 fn walk(t: Tables, scene: u32, list: &mut [u16], out: &mut impl Write) -> io::Result<()> {
-    match scene::walk(t, scene, list) {
-        Ok(count) => {
-            write!(out, " | 0 {count}")?;
-            entries(list, count, out)
-        }
-        Err(refusal) => write!(out, " | {} 0", refusal.number()),
-    }
+    let Walked { number, count } = scene::walk(t, scene, list).into();
+    write!(out, " | {number} {count}")?;
+    entries(list, count, out)
 }
 
 fn report(file: &[u8], out: &mut impl Write) -> io::Result<()> {

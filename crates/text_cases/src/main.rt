@@ -40,10 +40,11 @@ fn spelled(line: &[u8], text: &mut [u8]) -> usize
 }
 
 fn report(text: &[u8], out: &mut impl Write) -> io::Result<()> {
-    match text::check(text) {
-        Ok(()) => writeln!(out, "0 0"),
-        Err(Fault { number, place }) => writeln!(out, "{number} {place}"),
-    }
+    let (number, place) = match text::check(text) {
+        Ok(()) => (0, 0),
+        Err(Fault { number, place }) => (number, place),
+    };
+    writeln!(out, "{number} {place}")
 }
 
 fn report_all(s: &[u8], out: &mut impl Write) -> io::Result<()> {
