@@ -5,6 +5,7 @@ pub mod Walks
 pub mod Rows
 pub mod Sections
 pub mod Back
+pub mod Empty
 pub mod Exact
 pub mod Bounds
 pub mod Bits

@@ -12,7 +12,6 @@ ghost use Rattle.glb.specs.Check.{check_of};
 ghost use Rattle.device.specs.Words.{tables_of, words_of};
 
 use access::Reading;
-use glb::Checked;
 use scene::Walked;
 
 mod lists;
@@ -27,10 +26,19 @@ pub fn glb_check(file: &[u8], words: &mut [u32; 4000], item: &mut u32) -> u32
         × (tables_of words.new ≡ (check_of file.now).tables)
         × (item.new ≡ (check_of file.now).item) }
 {
-    let c = Checked::from(glb::check(file));
-    put::put_tables(words, c.tables);
-    *item = c.item;
-    c.verdict
+    let mut tables = tables::empty();
+    match glb::check_into(file, &mut tables) {
+        Ok(()) => {
+            put::put(words, &tables);
+            *item = 0;
+            0
+        }
+        Err(fault) => {
+            put::put_none(words);
+            *item = fault.item;
+            fault.rule
+        }
+    }
 }
 
 // One component of an accessor: 60, 63, 61, 62, or 0. Refused, the value is 0.

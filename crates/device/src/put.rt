@@ -2,6 +2,7 @@
 ghost use Rattle.std.specs.Prelude.{◌≡◌, ℕ, ◌+◌, ◌*◌, ◌≤◌, [], ◌∷◌, length, ⊤};
 ghost use mathlib.Core.List as L;
 ghost use Rattle.std.specs.List.{All};
+ghost use Rattle.tables.specs.Records.{empty_tables};
 ghost use Rattle.scene.specs.Steps.{written};
 ghost use Rattle.device.specs.Words.{view_words, accessor_words, list_words, head_words, rows, words_of, tables_of};
 ghost use Rattle.device.specs.Meaning.{Stored};
@@ -106,8 +107,8 @@ fn put_records<const N: usize, R: Record<N>>(words: &mut [u32], at: usize, recor
     }
 }
 
-fn head_words(t: Tables) -> [u32; 16]
-    ensures { result ≡ head_words t }
+fn head_words(t: &Tables) -> [u32; 16]
+    ensures { result ≡ head_words t.now }
 {
     [
         t.buffers,
@@ -130,9 +131,9 @@ fn head_words(t: Tables) -> [u32; 16]
 }
 
 // All words, whatever they were.
-fn put_all(words: &mut [u32], t: Tables)
+fn put_all(words: &mut [u32], t: &Tables)
     requires { length words.old ≡ 4000 }
-    ensures { (words.new ≡ words_of t) × Stored t }
+    ensures { (words.new ≡ words_of t.now) × Stored t.now }
 {
     words[..16].copy_from_slice(&head_words(t));
     put_records(words, 16, &t.view_records);
@@ -144,8 +145,22 @@ fn put_all(words: &mut [u32], t: Tables)
 }
 
 // The tables into 4,000 words, whatever they were; read back, the words are the tables.
+pub(crate) fn put(words: &mut [u32; 4000], t: &Tables)
+    ensures { (words.new ≡ words_of t.now) × (tables_of words.new ≡ t.now) }
+{
+    put_all(words, t);
+}
+
+// The words of empty tables: zeros.
+pub(crate) fn put_none(words: &mut [u32; 4000])
+    ensures { (words.new ≡ words_of empty_tables) × (tables_of words.new ≡ empty_tables) }
+{
+    words.fill(0);
+}
+
+// The same of tables by value.
 pub fn put_tables(words: &mut [u32; 4000], t: Tables)
     ensures { (words.new ≡ words_of t) × (tables_of words.new ≡ t) }
 {
-    put_all(words, t);
+    put(words, &t);
 }

@@ -21,7 +21,7 @@ use Rattle.tables.specs.declared.Sparse.{Sparse}
 use Rattle.tables.specs.Records.{no_sparse}
 use Rattle.document.specs.Sparse.{sparse_member}
 use Rattle.document.specs.Members.{integer_member, number_of}
-use Rattle.document.specs.Results.{kept, number_kept, ReadsTo, TakesTo}
+use Rattle.document.specs.Results.{kept, holding, number_kept, ReadsTo, TakesTo}
 
 -- on Ok rule 16 holds, and the value is that
 pub kept_ok : {A : Type 0} {b : Bool} {v x : A} {r : Result A Unfit} → r ≡ kept b v → r ≡ Ok x → (b ≡ true) × (v ≡ x)
@@ -32,6 +32,14 @@ kept_ok {b = false} e d = absurd (grind arith)
 pub kept_err : {A : Type 0} {b : Bool} (v : A) {u : Unfit} {r : Result A Unfit} → r ≡ kept b v → r ≡ Err u → b ≡ false
 kept_err {b = true} v e d = absurd (grind arith)
 kept_err {b = false} v e d = refl
+
+-- an answer with what a lent place holds: on Ok, ..
+pub held_ok : {A B : Type 0} (f : A → B) {x : A} {r : Result A Unfit} → r ≡ Ok x → holding f r ≡ Ok (f x)
+held_ok f d = rw d refl
+
+-- .. and on Err
+pub held_err : {A B : Type 0} (f : A → B) {u : Unfit} {r : Result A Unfit} → r ≡ Err u → holding f r ≡ Err u
+held_err f d = rw d refl
 
 -- the one error
 abbrev pub unfit : Unfit

@@ -8,6 +8,7 @@ mod Fitting
 mod Parts
 mod Tops
 mod Chunks
+mod Reading
 pub mod Exact
 pub mod Meaning
 pub mod Answered

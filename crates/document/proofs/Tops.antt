@@ -32,7 +32,7 @@ use Rattle.document.specs.Lists.{lists_good, lists_of}
 use Rattle.document.specs.Table.{read_members, fits_all}
 use Rattle.document.specs.Rules.{is_asset, rule_by, rule14, rule15, rule16, rule17, rule18, document_rule}
 use Rattle.document.specs.Said.{tables_from, tables_of, graph_of, refused, said, document_in}
-use Rattle.document.specs.Tops.{number, buffers, views, accessors, MembersTo, ReadsTop, Few, is_over, tables_read, document_answer}
+use Rattle.document.specs.Tops.{number, buffers, views, accessors, MembersTo, ReadsTop, read_in, Few, is_over, tables_read, document_answer}
 use Rattle.document.proofs.Fitting.{lists_count}
 use Rattle.document.proofs.Parts as parts
 use Rattle.document.proofs.Parts.{Parts, first_uri}
@@ -49,12 +49,13 @@ number_is (some j) g e = rw (← e) (by (integer_of j) g)
     by None g = absurd (true≢false (sym g))
 
 -- rule 16 is broken
-pub tops_err : {r : Result TopRead Unfit} (j : Json) → IsErr r → fits_all read_members j ≡ false → ReadsTop j r
-tops_err {r = Ok m} j i e = absurd (true≢false (sym i))
-tops_err {r = Err u} j i e = record { good = sym e; are = tt }
+pub tops_err : (r : Result (Unit {0}) Unfit) (m : TopRead) (j : Json) → IsErr r → fits_all read_members j ≡ false
+    → ReadsTop j (read_in m r)
+tops_err (Ok x) m j i e = absurd (true≢false (sym i))
+tops_err (Err u) m j i e = record { good = sym e; are = tt }
 
 -- it is not
-pub tops_ok : {m : TopRead} (j : Json) → fits_all read_members j ≡ true → MembersTo j m → ReadsTop j (Ok m)
+pub tops_ok : {m : TopRead} (j : Json) → fits_all read_members j ≡ true → MembersTo j m → ReadsTop j (read_in m (Ok tt))
 tops_ok j e p = record { good = sym e; are = p }
 
 -- a rule that is broken at a place is the answer

@@ -8,6 +8,7 @@ use Rattle.nav.specs.Places.{Stands}
 use Rattle.nav.specs.Members.{PastTo}
 use Rattle.tables.specs.declared.Sparse.{Sparse}
 use Rattle.document.specs.declared.members.Unfit.{Unfit}
+use Rattle.document.specs.declared.records.Counted.{Counted}
 use Rattle.document.specs.declared.records.sparse.Indices.{Indices}
 use Rattle.document.specs.declared.records.sparse.Values.{Values}
 use Rattle.document.specs.declared.records.accessors.PlacedAccessor.{PlacedAccessor}
@@ -36,6 +37,15 @@ values_kept v = kept v.good (record { buffer_view = v.buffer_view; byte_offset =
 -- of a sparse part that may be absent
 abbrev pub sparse_kept : SparseRead → Result (P.Option Sparse) Unfit
 sparse_kept r = kept r.good (cond r.has (Some r.sparse) None)
+
+-- an answer with what a lent place holds then
+abbrev pub holding : {A B : Type 0} → (A → B) → Result A Unfit → Result B Unfit
+holding f (Ok x) = Ok (f x)
+holding f (Err u) = Err u
+
+-- a count, with the records of a lent place
+abbrev pub counted_in : {A : Type 0} → A → Result ℕ Unfit → Result (Counted A) Unfit
+counted_in kept r = holding (λ n. record { count = n; kept = kept }) r
 
 -- an accessor's record, and whether byteOffset is there
 abbrev pub placed_accessor : Json → PlacedAccessor

@@ -1,6 +1,6 @@
 -- How what is read of the top, by Result and Option, is what the definitions say.
 -- Assumes nothing: these are definitions.
-use Rattle.std.specs.Prelude.{ℕ, ◌≤◌, ◌<◌, ◌≡◌, List, [], ◌∷◌, get_or, Bool, true, false, ◌||◌, cond, eqb, ltb, Result, Ok, Err, Some, None, IfOk, is_ok}
+use Rattle.std.specs.Prelude.{ℕ, ◌≤◌, ◌<◌, ◌≡◌, List, [], ◌∷◌, get_or, replicate, Bool, true, false, ◌||◌, cond, eqb, ltb, Result, Ok, Err, Some, None, IfOk, is_ok}
 use Rattle.std.specs.Prelude as P
 use Rattle.json_text.specs.Tree.{Json}
 use Rattle.nav.specs.Members.{field_of, FoundTree}
@@ -19,11 +19,14 @@ use Rattle.document.specs.Flags as F
 use Rattle.document.specs.Flags.{Number, BuffersRead, ViewsRead, AccessorsRead}
 use Rattle.document.specs.Names.{'asset', 'extensionsRequired', 'buffers', 'bufferViews', 'accessors', 'nodes', 'scenes', 'scene'}
 use Rattle.document.specs.Members.{optional}
-use Rattle.document.specs.Buffers.{buffers_of}
+use Rattle.tables.specs.Records.{no_view, no_accessor, no_list}
+use Rattle.document.specs.Arrays.{fill}
+use Rattle.document.specs.Buffers.{no_buffer, buffers_of}
 use Rattle.document.specs.Views.{views_of}
 use Rattle.document.specs.Accessors.{accessors_of}
 use Rattle.document.specs.Packs.{NodesTo, ScenesTo, nodes_read, scenes_read}
 use Rattle.document.specs.Table.{read_members, fits_all}
+use Rattle.document.specs.Results.{holding}
 use Rattle.document.specs.Said.{tables_from, refused}
 
 -- the members of the top, in this order
@@ -53,6 +56,18 @@ views c = record { good = true; count = c.count; records = c.kept.records }
 abbrev pub accessors : Counted Accessors → AccessorsRead
 accessors c = record { good = true; count = c.count; records = c.kept.records; placed = c.kept.placed }
 
+-- nothing
+abbrev pub none_read : TopRead
+none_read =
+    record {
+      buffers = record { count = 0; kept = record { records = fill 1 no_buffer [] } };
+      views = record { count = 0; kept = record { records = fill 64 no_view [] } };
+      accessors = record { count = 0; kept = record { records = fill 128 no_accessor []; placed = fill 128 false [] } };
+      nodes = record { count = 0; lists = replicate 128 no_list; entries = replicate 128 0 };
+      scenes = record { count = 0; lists = replicate 8 no_list; entries = replicate 1024 0 };
+      scene = None;
+    }
+
 -- what is read of the members is what the tree says
 pub record MembersTo (j : Json) (m : TopRead) : Type 0 where
   pub buffers_are : buffers m.buffers ≡ buffers_of (field_of 'buffers' j)
@@ -61,6 +76,10 @@ pub record MembersTo (j : Json) (m : TopRead) : Type 0 where
   pub nodes_are : NodesTo (field_of 'nodes' j) (nodes_read m.nodes)
   pub scenes_are : ScenesTo (field_of 'scenes' j) (scenes_read m.scenes)
   pub scene_is : number m.scene ≡ optional 'scene' j
+
+-- whether they were read, with what a lent place holds then
+abbrev pub read_in : TopRead → Result (Unit {0}) Unfit → Result TopRead Unfit
+read_in m r = holding (λ u. m) r
 
 -- they are read where rule 16 holds
 pub record ReadsTop (j : Json) (r : Result TopRead Unfit) : Type 0 where

@@ -26,6 +26,7 @@ pub struct Document {
 }
 
 // Reads a JSON chunk. The fault is the smallest of rules 9 to 18 that the chunk breaks, with the place of rules 9 to 13.
+#[tactic(auto, using(crate::proofs::Reading::read_refused))]
 pub fn read(chunk: &[u8]) -> Result<Document, Fault>
     ensures { result ≡ document_answer (document_of chunk.now) }
 {

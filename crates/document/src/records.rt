@@ -7,7 +7,7 @@ ghost use Rattle.nav.specs.Results.{Placed};
 ghost use Rattle.json_text.specs.Tree.{Json, Values};
 ghost use Rattle.nav.specs.Places.{Walk};
 ghost use Rattle.document.specs.Arrays.{elements, every, is_array_of, elements_in};
-ghost use Rattle.document.specs.Results.{kept, TakesTo};
+ghost use Rattle.document.specs.Results.{kept, counted_in, TakesTo};
 
 use crate::members::Unfit;
 use nav::Step;
@@ -43,15 +43,16 @@ pub(crate) struct Counted<R> {
     pub kept: R,
 }
 
-// The elements from `at` on. All are checked.
-fn read_from<R: Records>(s: &[u8], at: usize) -> Result<Counted<R>, Unfit>
-    requires { at ≤ length s.now }
+// The elements from `at` on, into a place that holds none. All are checked, and counted.
+fn read_from<R: Records>(s: &[u8], at: usize, records: &mut R) -> Result<usize, Unfit>
+    requires within { at ≤ length s.now }
+    requires none { records.old ≡ R.keeps [] }
     ensures { (js : Values) → Walk (drop at s.now) js
-        → result ≡ kept (every R.fits (elements js)) (record { count = length (elements js); kept = R.keeps (elements js) }) }
+        → counted_in records.new result
+        ≡ kept (every R.fits (elements js)) (record { count = length (elements js); kept = R.keeps (elements js) }) }
 {
     // Stays: no `for`, since reading an element gives the place past it, from which the next one is found: an iterator over
     // places would read each twice.
-    let mut records = R::none();
     let mut count = 0;
     let mut i = at;
     loop {
@@ -59,28 +60,25 @@ fn read_from<R: Records>(s: &[u8], at: usize) -> Result<Counted<R>, Unfit>
         count += 1;
         match nav::next_past(s, past) {
             Step::More(q) => i = q,
-            Step::End(_) => return Ok(Counted {
-                count,
-                kept: records,
-            }),
+            Step::End(_) => return Ok(count),
             Step::Bad => return Err(Unfit),
         }
     }
 }
 
-// The elements of the array at a place, which may be none.
-pub(crate) fn read<R: Records>(s: &[u8], at: Option<usize>) -> Result<Counted<R>, Unfit>
+// The elements of the array at a place, which may be none, into a lent place that holds none. The answer is how many they are.
+// Stays: the records are lent, since an answer by value would be copied at each `?` on its way.
+pub(crate) fn read<R: Records>(s: &[u8], at: Option<usize>, records: &mut R) -> Result<usize, Unfit>
+    requires { records.old ≡ R.keeps [] }
     ensures { (o : Option Json) → Placed (FoundTree s.now o) at
-        → result ≡ kept (is_array_of R.fits o) (record { count = length (elements_in o); kept = R.keeps (elements_in o) }) }
+        → counted_in records.new result
+        ≡ kept (is_array_of R.fits o) (record { count = length (elements_in o); kept = R.keeps (elements_in o) }) }
 {
     let Some(at) = at else {
-        return Ok(Counted {
-            count: 0,
-            kept: R::none(),
-        });
+        return Ok(0);
     };
     match nav::open(s, at) {
-        Step::More(q) => read_from(s, q),
+        Step::More(q) => read_from(s, q, records),
         Step::End(_) => Err(Unfit),
         Step::Bad => Err(Unfit),
     }

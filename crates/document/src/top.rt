@@ -3,22 +3,22 @@ ghost use Rattle.std.specs.Prelude.{◌≡◌, ◌≤◌, IsTrue, drop};
 ghost use Rattle.json_text.specs.Tree.{Json};
 ghost use Rattle.nav.specs.Places.{Stands};
 ghost use Rattle.document.specs.Said.{document_in};
-ghost use Rattle.document.specs.Tops.{Few, PlacesTo, ReadsTop, is_over, tables_read, document_answer};
+ghost use Rattle.document.specs.Tops.{Few, PlacesTo, ReadsTop, none_read, read_in, is_over, tables_read, document_answer};
 
 use crate::asset::is_asset;
 use crate::members::{Unfit, optional};
 use crate::nodes::graph_fault;
 use crate::nodes::lists::{ListsRead, read_lists, sound};
-use crate::records::Counted;
 use crate::records::accessors::Accessors;
 use crate::records::buffers::Buffers;
 use crate::records::views::Views;
+use crate::records::{Counted, Records};
 use crate::{Document, records};
 use nav::members::gather;
-use tables::Tables;
+use tables::{List, Tables};
 use text::Fault;
 
-// What is read of the members of the top, where rule 16 holds of all of them.
+// What is read of the members of the top.
 #[derive(Clone, Copy)]
 pub(crate) struct TopRead {
     pub buffers: Counted<Buffers>,
@@ -46,28 +46,71 @@ impl From<Unfit> for Fault {
     }
 }
 
-// The members at these places, but for the first two, `asset` and `extensionsRequired` (rule 16).
-fn read_members(s: &[u8], places: [Option<usize>; 8]) -> Result<TopRead, Unfit>
-    ensures { (j : Json) → PlacesTo s.now j places → ReadsTop j result }
-{
-    let [_, _, buffers, views, accessors, nodes, scenes, scene] = places;
-    let buffers = records::read(s, buffers)?;
-    let views = records::read(s, views)?;
-    let accessors = records::read(s, accessors)?;
-    let nodes = read_lists(s, nodes, b"children")?;
-    let scenes = read_lists(s, scenes, b"nodes")?;
-    let scene = optional(s, scene)?;
-    Ok(TopRead {
-        buffers,
-        views,
-        accessors,
-        nodes,
-        scenes,
-        scene,
-    })
-}
-
 impl TopRead {
+    // Nothing.
+    fn none() -> TopRead
+        ensures { result ≡ none_read }
+    {
+        TopRead {
+            buffers: Counted {
+                count: 0,
+                kept: Buffers::none(),
+            },
+            views: Counted {
+                count: 0,
+                kept: Views::none(),
+            },
+            accessors: Counted {
+                count: 0,
+                kept: Accessors::none(),
+            },
+            nodes: ListsRead {
+                count: 0,
+                lists: [List::default(); 128],
+                entries: [0; 128],
+            },
+            scenes: ListsRead {
+                count: 0,
+                lists: [List::default(); 8],
+                entries: [0; 1024],
+            },
+            scene: None,
+        }
+    }
+
+    // Reads the members at these places, but for the first two, `asset` and `extensionsRequired` (rule 16).
+    fn read_members(&mut self, s: &[u8], places: [Option<usize>; 8]) -> Result<(), Unfit>
+        requires { self.old ≡ none_read }
+        ensures { (j : Json) → PlacesTo s.now j places → ReadsTop j (read_in self.new result) }
+    {
+        let [_, _, buffers, views, accessors, nodes, scenes, scene] = places;
+        let buffers = records::read(s, buffers, &mut self.buffers.kept)?;
+        let views = records::read(s, views, &mut self.views.kept)?;
+        let accessors = records::read(s, accessors, &mut self.accessors.kept)?;
+        let nodes = read_lists(
+            s,
+            nodes,
+            b"children",
+            &mut self.nodes.lists,
+            &mut self.nodes.entries,
+        )?;
+        let scenes = read_lists(
+            s,
+            scenes,
+            b"nodes",
+            &mut self.scenes.lists,
+            &mut self.scenes.entries,
+        )?;
+        let scene = optional(s, scene)?;
+        self.buffers.count = buffers;
+        self.views.count = views;
+        self.accessors.count = accessors;
+        self.nodes.count = nodes;
+        self.scenes.count = scenes;
+        self.scene = scene;
+        Ok(())
+    }
+
     // Whether a count passes its capacity (rule 17).
     fn is_over(&self) -> bool
         ensures { result ≡ is_over self.now }
@@ -108,6 +151,8 @@ impl TopRead {
 pub(crate) fn top(s: &[u8], at: usize) -> Result<Document, Fault>
     ensures { (j : Json) → Stands (drop at s.now) j → result ≡ document_answer (document_in j) }
 {
+    // Stays: made first, since the compiler fills it with zeros at the entry anyway, and then only once.
+    let mut read = TopRead::none();
     let found = gather::<8>(
         s,
         at,
@@ -129,7 +174,7 @@ pub(crate) fn top(s: &[u8], at: usize) -> Result<Document, Fault>
     if extensions.is_some() {
         return Err(rule(15));
     }
-    let mut read = read_members(s, found.places)?;
+    read.read_members(s, found.places)?;
     if read.is_over() {
         return Err(rule(17));
     }
@@ -138,8 +183,8 @@ pub(crate) fn top(s: &[u8], at: usize) -> Result<Document, Fault>
         return Err(rule(18));
     }
     let graph = graph_fault(s, nodes, read.nodes.count, scenes, read.scenes.count);
-    read.nodes = sound(graph, read.nodes);
-    read.scenes = sound(graph, read.scenes);
+    sound(graph, &mut read.nodes);
+    sound(graph, &mut read.scenes);
     Ok(Document {
         tables: read.tables(),
         placed: read.accessors.kept.placed,

@@ -9,6 +9,11 @@ use Rattle.glb.specs.declared.Checked.{Checked}
 unfoldable pub outcome_of : Checked → Result Tables Fault
 outcome_of c = cond (eqb c.verdict 0) (Ok c.tables) (Err (record { rule = c.verdict; item = c.item }))
 
+-- an answer with the tables that a lent place holds then
+abbrev pub holding : Tables → Result (Unit {0}) Fault → Result Tables Fault
+holding t (Ok u) = Ok t
+holding t (Err b) = Err b
+
 -- the record that an answer stands for: on refusal the tables are empty
 unfoldable pub checked_of : Result Tables Fault → Checked
 checked_of (Ok t) = record { verdict = 0; item = 0; tables = t }

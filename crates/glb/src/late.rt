@@ -42,20 +42,30 @@ fn check_scene(has_scene: bool, scene: u32, scenes: u32) -> Result<(), Finding>
 pub(crate) fn late_rule(
     file: &[u8],
     c: Container,
-    t: Tables,
-    placed: [bool; 128],
+    t: &Tables,
+    placed: &[bool; 128],
     graph: Result<(), Fault>,
 ) -> Result<(), Finding>
     requires graph_answer { graph ≡ graph_outcome (fault_of graph) }
     requires item_bound { (fault_of graph).item < 4294967296 }
-    ensures { result ≡ outcome_of (late_finding file.now (record_of (Ok c)) t placed (fault_of graph)) }
+    ensures { result ≡ outcome_of (late_finding file.now (record_of (Ok c)) t.now placed.now (fault_of graph)) }
 {
     check_buffer(file, c, t.buffers, t.buffer_length)?;
-    let view_records = t.view_records;
-    check_views(t.buffers, t.buffer_length, view_records, t.views)?;
-    let records = t.accessor_records;
-    check_accessors(t.views, view_records, records, placed, t.accessors)?;
-    sparse_rule(file, t.buffer_start, records, view_records, t.accessors)?;
+    check_views(t.buffers, t.buffer_length, t.view_records, t.views)?;
+    check_accessors(
+        t.views,
+        t.view_records,
+        t.accessor_records,
+        *placed,
+        t.accessors,
+    )?;
+    sparse_rule(
+        file,
+        t.buffer_start,
+        t.accessor_records,
+        t.view_records,
+        t.accessors,
+    )?;
     if let Err(fault) = graph {
         return Err(Finding {
             rule: fault.number,

@@ -1,10 +1,12 @@
 // `check`: the tables of any bytes, or the smallest of rules 1 to 47 that they break.
 #![tactic(auto)]
 
-ghost use Rattle.std.specs.Prelude.{◌≡◌, ◌<◌, Ok};
-ghost use Rattle.container.specs.Results.{record_of};
+ghost use Rattle.std.specs.Prelude.{◌≡◌, ◌<◌, Ok, OnErr};
+ghost use Rattle.tables.specs.Records.{empty_tables};
+ghost use Rattle.container.specs.Rules.{container_of};
+ghost use Rattle.container.specs.Results.{record_of, outcome_of as container_outcome};
 ghost use Rattle.glb.specs.Check.{placed_at, check_of};
-ghost use Rattle.glb.specs.Results.{outcome_of, checked_of};
+ghost use Rattle.glb.specs.Results.{outcome_of, holding, checked_of};
 
 use crate::late::late_rule;
 use container::Container;
@@ -88,13 +90,11 @@ impl From<Result<Tables, Fault>> for Checked {
 
 // The tables with the buffer's first byte, 0 without a buffer.
 #[tactic(auto, unfolding(crate::specs::Check::placed_at))]
-fn place_buffer(tables: Tables, start: usize) -> Tables
+fn place_buffer(tables: &mut Tables, start: usize)
     requires { start < 4294967296 }
-    ensures { result ≡ placed_at start tables }
+    ensures { tables.new ≡ placed_at start tables.old }
 {
-    let mut placed = tables;
-    placed.buffer_start = if tables.buffers != 0 { start as u32 } else { 0 };
-    placed
+    tables.buffer_start = if tables.buffers != 0 { start as u32 } else { 0 };
 }
 
 // Where the BIN chunk's data start, 0 without such a chunk.
@@ -108,14 +108,50 @@ fn bin_start(c: Container) -> usize
     }
 }
 
+// Rules 9 to 47 of a file whose chunks lie so, and its tables into a lent place.
+// Stays: a match and no `?`, which would copy the document once more.
+fn check_document(file: &[u8], c: Container, tables: &mut Tables) -> Result<(), Fault>
+    requires { container_outcome (container_of file.now) ≡ Ok c }
+    ensures { holding tables.new result ≡ outcome_of (check_of file.now) }
+{
+    let end = c.json.start + c.json.length;
+    match document::read(&file[c.json.start..end]) {
+        Ok(d) => {
+            *tables = d.tables;
+            place_buffer(tables, bin_start(c));
+            late_rule(file, c, tables, &d.placed, d.graph)?;
+            Ok(())
+        }
+        Err(fault) => Err(Fault::from(fault)),
+    }
+}
+
+// Rules 1 to 47 in their order, and the tables into a lent place. What it holds where a rule is broken is left open.
+fn fill(file: &[u8], tables: &mut Tables) -> Result<(), Fault>
+    ensures { holding tables.new result ≡ outcome_of (check_of file.now) }
+{
+    let c = container::open(file)?;
+    check_document(file, c, tables)
+}
+
+// Rules 1 to 47 in their order, and the tables into a lent place, whatever it held: empty tables where a rule is broken.
+// Stays: beside `check`, for a caller that would only copy the tables on.
+pub fn check_into(file: &[u8], tables: &mut Tables) -> Result<(), Fault>
+    ensures answer { holding tables.new result ≡ outcome_of (check_of file.now) }
+    ensures refused { OnErr result (tables.new ≡ empty_tables) }
+{
+    let answer = fill(file, tables);
+    if answer.is_err() {
+        *tables = tables::empty();
+    }
+    answer
+}
+
 // Rules 1 to 47 in their order.
 pub fn check(file: &[u8]) -> Result<Tables, Fault>
     ensures { result ≡ outcome_of (check_of file.now) }
 {
-    let c = container::open(file)?;
-    let end = c.json.start + c.json.length;
-    let d = document::read(&file[c.json.start..end])?;
-    let tables = place_buffer(d.tables, bin_start(c));
-    late_rule(file, c, tables, d.placed, d.graph)?;
+    let mut tables = tables::empty();
+    fill(file, &mut tables)?;
     Ok(tables)
 }

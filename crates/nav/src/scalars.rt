@@ -4,8 +4,9 @@ ghost use Rattle.json_text.specs.Parse.{tree_at};
 ghost use Rattle.json_text.specs.Scans.{Tells};
 ghost use Rattle.nav.specs.Words.{plains, Quoted, is_string_at, is_version_at};
 ghost use Rattle.nav.specs.Integers.{spelled, integer_at};
+ghost use Rattle.nav.specs.Steps.{next_of};
 
-use crate::front;
+use crate::{Step, after_at, front};
 use json_text::{digits_at, is_plain, literal_at, value_at};
 
 // Whether `word` has no byte that a string spells with an escape.
@@ -69,4 +70,15 @@ pub fn integer_at(s: &[u8], at: usize) -> Option<u32>
 {
     let past = value_at(s, at, 32).ok()?;
     integer_from(&s[at..past])
+}
+
+// The integer at `at`, if one stands there, and the step to the element of an array that follows: one scan for both.
+pub fn integer_then(s: &[u8], at: usize) -> (Option<u32>, Step)
+    ensures integer { result.0 ≡ integer_at (tree_at 32 (drop at s.now)) }
+    ensures step { result.1 ≡ next_of 32 0x5d s.now (drop at s.now) }
+{
+    match value_at(s, at, 32) {
+        Ok(past) => (integer_from(&s[at..past]), after_at(s, past, b']')),
+        Err(_) => (None, Step::Bad),
+    }
 }

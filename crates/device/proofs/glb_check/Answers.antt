@@ -6,8 +6,16 @@ use Rattle.glb.proofs.Answered.{check_whole}
 use Rattle.device.specs.Words.{words_of}
 use Rattle.device.proofs.glb_check.Goals as goal
 
-pub returns : goal.returns
-returns c =
-    let e = c.from-c.ensures ∙ ap checked_of c.check.ensures ∙ check_whole c.args.file.now in
-    let put = c.put_tables.ensures in
+pub returns-in-Ok : goal.returns-in-Ok
+unfolding checked_of
+returns-in-Ok c =
+    let e = ap checked_of c.in-Ok.ensures.answer ∙ check_whole c.args.file.now in
+    let put = c.put.ensures in
+    (ap (λ (x : Checked). x.verdict) e, put.0 ∙ ap (λ (x : Checked). words_of x.tables) e, put.1 ∙ ap (λ (x : Checked). x.tables) e, ap (λ (x : Checked). x.item) e)
+
+pub returns-in-Err : goal.returns-in-Err
+unfolding checked_of
+returns-in-Err c =
+    let e = ap checked_of c.in-Err.ensures.answer ∙ check_whole c.args.file.now in
+    let put = c.put_none.ensures in
     (ap (λ (x : Checked). x.verdict) e, put.0 ∙ ap (λ (x : Checked). words_of x.tables) e, put.1 ∙ ap (λ (x : Checked). x.tables) e, ap (λ (x : Checked). x.item) e)

@@ -4,4 +4,4 @@ use Rattle.device.proofs.put.head_words.Goals as goal
 
 pub returns : goal.returns
 unfolding head_words
-returns c = rw (c.from.ensures, bit_is c.args.t.has_scene)
+returns c = rw (c.from.ensures, bit_is c.args.t.now.has_scene)

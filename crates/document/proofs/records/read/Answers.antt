@@ -9,12 +9,12 @@ use Rattle.document.proofs.records.read.Goals as goal
 pub returns-in_default : goal.returns-in_default
 returns-in_default g c = λ o t.
     let k = array_absent g.R.Records.fits in
-    rw (at_none t c.in_default.is, k.0, k.1, c.none.ensures)
+    rw (at_none t c.in_default.is, k.0, k.1, c.requires)
 
 pub read_from-requires : goal.read_from-requires
 read_from-requires g c =
     let a = c.args in
-    (open_later a.s.now c.in-Some.at c.in-More.ensures refl).1
+    record { within = (open_later a.s.now c.in-Some.at c.in-More.ensures refl).1; none = c.requires }
 
 pub returns-in-More : goal.returns-in-More
 returns-in-More g c = λ o t.

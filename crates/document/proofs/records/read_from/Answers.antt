@@ -10,11 +10,11 @@ use Rattle.document.proofs.records.read_from.Goals as goal
 pub loop-past-init : goal.loop-past-init
 loop-past-init g c =
     let a = c.args in
-    (omega arith, omega arith, λ js w. read_none a.at w c.none-records.ensures)
+    (omega arith, omega arith, λ js w. read_none a.at w c.requires.none)
 
 pub returns-in_err-past : goal.returns-in_err-past
 returns-in_err-past g c = λ js w.
-    rw (read_unfit (c.loop-past.invariant.2 js w) c.take.ensures c.in_err-past.was) (failed c.from_residual.ensures.0)
+    rw (read_unfit (c.loop-past.invariant.2 js w) c.take.ensures c.in_err-past.was, failed c.from_residual.ensures.0) refl
 
 pub loop-past-smaller : goal.loop-past-smaller
 loop-past-smaller g c =

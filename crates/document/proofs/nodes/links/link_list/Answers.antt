@@ -17,7 +17,7 @@ loop-element-init c =
     )
 
 pub loop-element-smaller : goal.loop-element-smaller
-loop-element-smaller c = falls c.args.s.now c.in-Some.is c.following-element.ensures
+loop-element-smaller c = falls c.args.s.now c.in-Some.is c.integer_then-child.ensures.element
 
 pub loop-element-preserved : goal.loop-element-preserved
 loop-element-preserved c =
@@ -26,8 +26,8 @@ loop-element-preserved c =
     let k = c.link-past in
     let n = length a.parents.now in (
       k.auto.parents ∙ l.invariant.0,
-      λ o f. goes (l.invariant.1 o f) c.in-Some.is c.following-element.ensures (λ j is t p.
-          let e = entry_value j (integer_stands t c.integer_at.ensures) c.unwrap_or-child.ensures in (
+      λ o f. goes (l.invariant.1 o f) c.in-Some.is c.integer_then-child.ensures.element (λ j is t p.
+          let e = entry_value j (integer_stands t c.integer_then-child.ensures.integer) c.unwrap_or.ensures in (
             fed_next (link_past n) a.first o e (k.ensures.0 ∙ rw l.invariant.0 refl) p.0,
             fed_next link_parents a.parents.now o e k.ensures.1 p.1,
           )),

@@ -11,7 +11,7 @@ use Rattle.document.proofs.nodes.Turns.{Listing}
 use Rattle.document.proofs.nodes.lists.read_lists.Given as goal
 
 abbrev pub invariant-loop-element : goal.invariant-loop-element
-invariant-loop-element g l = (l.used ≤ length l.initial.entries)
+invariant-loop-element l = (l.used ≤ length l.initial.entries)
     × (length l.lists ≡ length l.initial.lists)
     × (length l.entries ≡ length l.initial.entries)
     × ((q : ℕ) → l.element ≡ Some q → (l.count ≤ q) × (q ≤ length l.s))
@@ -19,4 +19,4 @@ invariant-loop-element g l = (l.used ≤ length l.initial.entries)
     → Going l.s l.element (Listing l.word o l.initial.lists l.initial.entries l.count l.used l.lists l.entries))
 
 abbrev pub decreases-loop-element : goal.decreases-loop-element
-decreases-loop-element g l = left l.s l.element
+decreases-loop-element l = left l.s l.element

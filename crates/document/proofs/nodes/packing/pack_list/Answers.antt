@@ -30,11 +30,11 @@ returns-in_err-entry c =
     take_broken c.from_residual-in_err-entry.ensures.0
     (λ o f.
     let g = stands (c.loop-element.invariant.3 o f) c.in-Some.is in
-    take_bad o a.before a.entries.now (asked_none c.integer_at.result c.ok_or.ensures.value c.in_err-entry.was (integer_stands g.2 c.integer_at.ensures))
+    take_bad o a.before a.entries.now (asked_none c.integer_then-integer.result.0 c.ok_or.ensures.value c.in_err-entry.was (integer_stands g.2 c.integer_then-integer.ensures.integer))
     g.3)
 
 pub loop-element-smaller : goal.loop-element-smaller
-loop-element-smaller c = falls c.args.s.now c.in-Some.is c.following-element.ensures
+loop-element-smaller c = falls c.args.s.now c.in-Some.is c.integer_then-integer.ensures.element
 
 pub loop-element-preserved : goal.loop-element-preserved
 loop-element-preserved c =
@@ -45,9 +45,9 @@ loop-element-preserved c =
       omega (arith, p.ensures.0, w.0, l.invariant.0),
       omega (arith, p.ensures.0, w.1, l.invariant.2),
       p.auto.entries ∙ l.invariant.2,
-      λ o f. goes (l.invariant.3 o f) c.in-Some.is c.following-element.ensures (λ j is t.
+      λ o f. goes (l.invariant.3 o f) c.in-Some.is c.integer_then-integer.ensures.element (λ j is t.
           take_next o a.before a.entries.now l.invariant.2 l.invariant.1
-          (asked_some c.integer_at.result c.ok_or.ensures.value c.in_ok-entry.was (integer_stands t c.integer_at.ensures)) p.ensures.0 p.ensures.1),
+          (asked_some c.integer_then-integer.result.0 c.ok_or.ensures.value c.in_ok-entry.was (integer_stands t c.integer_then-integer.ensures.integer)) p.ensures.0 p.ensures.1),
     )
 
 pub returns : goal.returns

@@ -15,7 +15,7 @@ loop-element-init c =
     )
 
 pub loop-element-smaller : goal.loop-element-smaller
-loop-element-smaller c = falls c.args.s.now c.in-Some.is c.following-element.ensures
+loop-element-smaller c = falls c.args.s.now c.in-Some.is c.integer_then-node.ensures.element
 
 pub loop-element-preserved : goal.loop-element-preserved
 loop-element-preserved c =
@@ -23,9 +23,9 @@ loop-element-preserved c =
     let a = c.args in
     let k = c.root-found in (
       k.auto.marks ∙ l.invariant.0,
-      λ o f. goes (l.invariant.1 o f) c.in-Some.is c.following-element.ensures (λ j is t p.
+      λ o f. goes (l.invariant.1 o f) c.in-Some.is c.integer_then-node.ensures.element (λ j is t p.
           fed_next (root_step a.parents.now) (marked a.first a.marks.now) o
-          (entry_value j (integer_stands t c.integer_at.ensures) c.unwrap_or-node.ensures) (rw (k.ensures.0, k.ensures.1) refl) p),
+          (entry_value j (integer_stands t c.integer_then-node.ensures.integer) c.unwrap_or.ensures) (rw (k.ensures.0, k.ensures.1) refl) p),
     )
 
 pub returns : goal.returns

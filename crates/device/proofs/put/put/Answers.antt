@@ -1,7 +1,7 @@
 use mathlib.Core.Path.{ap, ◌∙◌}
 use Rattle.device.specs.Words.{tables_of}
 use Rattle.device.proofs.Exact.{read_written}
-use Rattle.device.proofs.put.put_tables.Goals as goal
+use Rattle.device.proofs.put.put.Goals as goal
 
 pub returns : goal.returns
 returns c =
