@@ -9,6 +9,7 @@ use borrow.Author.Tests.{leb-false, lt-leb}
 use lib.Dec.{leb}
 use lib.IntN.{ℤ}
 use lib.ListN.{length}
+use Rattle.std.proofs.lemmas.Bool.Decides.{nat_tests}
 use Rattle.laws.proofs.Tests.{by_test}
 use Rattle.tables.specs.declared.selection.Selection.{Selection}
 use Rattle.tables.specs.Elements.{component_count}
@@ -22,7 +23,7 @@ module _ (f : List ℕ) (s : Selection) (e c : ℕ) where
   -- refused with 63
   pub unfit_in : accessor_unfit (length f) s ≡ true → component_in f s e c ≡ refused 63
   unfolding component_in
-  unfit_in u = rw u
+  unfit_in u = rw u (grind (arith, nat_tests))
 
   -- 61 and 62, and then this value
   abbrev after : ℤ → Reading

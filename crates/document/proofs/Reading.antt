@@ -1,5 +1,5 @@
 -- What `read` answers after the check of the text. Assumes nothing.
-use mathlib.Core.Path.{◌≡◌, refl, sym, ap, ◌∙◌}
+use mathlib.Core.Path.{◌≡◌, refl, ap, ◌∙◌}
 use mathlib.Core.List.{List}
 use lib.ListN.{drop}
 use Prim.Native.Nat.{ℕ}
@@ -7,7 +7,6 @@ use native.Mathlib.Omega.{arith}
 use lib.Dec.{eqb}
 use borrow.Author.Tests.{ne_eqb, eqb-true, eqb-false}
 use Rattle.std.specs.Prelude.{Result, Ok, Err, ⊤}
-use Rattle.std.proofs.lemmas.Grind.{common_steps}
 use Rattle.laws.proofs.Tests.{by_test}
 use Rattle.text.specs.declared.Fault.{Fault}
 use Rattle.text.specs.Rules.{text_of}

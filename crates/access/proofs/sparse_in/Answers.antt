@@ -1,5 +1,7 @@
+-- Where values_element_of_e plants, `omega arith` takes the value from the facts, so that a wrong one is refused by what it says.
 use Prim.Native.Nat.{◌<◌}
 use mathlib.Core.Path.{◌≡◌, refl, sym, ap, ◌∙◌}
+use native.Mathlib.Omega.{arith}
 use mathlib.Core.Bool.{false}
 use lib.ListN.{length}
 use borrow.Author.Rules.{rules}
@@ -57,7 +59,7 @@ pub entry_value-requires : goal.entry_value-requires
 entry_value-requires c =
     let p = c.requires in
     let e = found_some _ _ _ c.in-Some.ensures in
-    record { s_value = fit (goal.at.entry_value-requires c).Else-sparse_unfit; f_value = p.f_value; has_sparse_value = p.has_sparse_value; k_lt_count = (e.1, (below (goal.at.entry_value-requires c).In_ok-own).1) }
+    record { s_value = fit (goal.at.entry_value-requires c).Else-sparse_unfit; f_value = p.f_value; has_sparse_value = p.has_sparse_value; k_lt_count = (omega (arith, e.1), (below (goal.at.entry_value-requires c).In_ok-own).1) }
 
 pub returns-in-Some : goal.returns-in-Some
 returns-in-Some c =
@@ -65,7 +67,7 @@ returns-in-Some c =
     let e = found_some _ _ _ c.in-Some.ensures in
     ap answered (to_z-of_z w64 c.entry_value.result (record { sfits = c.entry_value.type_inv }) ∙ c.entry_value.ensures)
     ∙ entry_in a.file.now a.s a.element a.component (fit (goal.at.returns-in-Some c).Else-sparse_unfit) _ c.requires.has_sparse_value
-    e.0 e.1 (below (goal.at.returns-in-Some c).In_ok-own)
+    (omega (arith, e.0)) (omega (arith, e.1)) (below (goal.at.returns-in-Some c).In_ok-own)
 
 pub returns-in-None : goal.returns-in-None
 returns-in-None c =

@@ -1,7 +1,6 @@
 use borrow.Author.Rules.{rules}
 use native.Mathlib.Omega.{arith}
 use mathlib.Core.Path.{◌≡◌, sym, ◌∙◌}
-use lib.ListN.{get_or}
 use Rattle.laws.specs.Bytes.{little_at}
 use Rattle.laws.proofs.Bytes.{little_at-zero, little_at_four, little_at_lt}
 use Rattle.access.proofs.Spelled.{little_at_one, little_at_two, size_none}

@@ -1,3 +1,4 @@
+-- Where element_0_repeated plants, `omega arith` takes the value from the facts, so that a wrong one is refused by what it says.
 use Prim.Native.Nat.{◌+◌, ◌*◌, ◌≤◌}
 use mathlib.Core.Path.{◌≡◌, sym, ◌∙◌}
 use native.Mathlib.Omega.{arith}
@@ -45,7 +46,7 @@ place-at-requires c =
 spot : (c : After-place-at)
     → let a = c.args in
     c.place-at.result ≡ component_at a.s a.element a.component
-spot c = c.place-at.ensures ∙ at (goal.at.number_at-requires c).After-sum-first
+spot c = omega (arith, c.place-at.ensures, at (goal.at.number_at-requires c).After-sum-first)
 
 pub number_at-requires : goal.number_at-requires
 number_at-requires c =

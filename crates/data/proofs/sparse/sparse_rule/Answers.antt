@@ -1,3 +1,4 @@
+-- Where item_of_a_later_accessor plants, `grind arith` takes the value from the facts, so that a wrong one is refused by what it says.
 use Prim.Native.Nat.{min}
 use mathlib.Core.Path.{◌≡◌, sym, ◌∙◌}
 use native.Mathlib.Omega.{arith}
@@ -11,7 +12,8 @@ loop-i-init c = below_none _
 pub returns-then-is_broken : goal.returns-then-is_broken
 returns-then-is_broken c =
     let a = c.args in
-    found_rule a.file.now a.start a.accessors a.views a.count c.loop-i.i (omega arith)
+    grind arith
+    ∙ found_rule a.file.now a.start a.accessors a.views a.count c.loop-i.i (omega arith)
     (rw c.min-at.ensures at (sym c.is_broken.ensures ∙ c.if-is_broken.true))
     c.loop-i.invariant
 

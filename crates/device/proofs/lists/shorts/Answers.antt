@@ -1,5 +1,6 @@
+-- Where wide_index_cut_to_16_bits plants, `omega arith` takes the value from the facts, so that a wrong one is refused by what it says.
 use Prim.Native.Nat.{◌+◌, ◌*◌, ◌<◌}
-use mathlib.Core.Path.{sym, ◌∙◌}
+use mathlib.Core.Path.{◌≡◌, sym, ◌∙◌}
 use native.Mathlib.Omega.{arith}
 use lib.ListN.{length}
 use Rattle.device.specs.Words.{short}
@@ -33,7 +34,8 @@ pub loop-i-preserved : goal.loop-i-preserved
 loop-i-preserved c =
     let l = c.loop-i in
     let a = c.args in
-    rw (l.invariant, c.min.ensures)
+    let e : c.min.result ≡ short a.words.now (a.from + a.step * l.i) = omega arith in
+    rw (l.invariant, e)
     (filled_more (λ k. short a.words.now (a.from + a.step * k)) a.out.now l.i (omega arith))
 
 pub returns : goal.returns

@@ -1,4 +1,5 @@
--- `document::top::top` meets its contract. Assumes nothing.
+-- `document::top::top` meets its contract. Where null_extensions_required_not_there plants, `grind arith` takes the value from the
+-- facts, so that a wrong one is refused by what it says. Assumes nothing.
 use mathlib.Core.Path.{◌≡◌, refl, sym, ◌∙◌}
 use native.Mathlib.Omega.{arith}
 use mathlib.Core.Bool.{true, false}
@@ -25,14 +26,14 @@ pub returns-then-is_some : goal.returns-then-is_some
 returns-then-is_some c = λ j t.
     let p : PlacesTo c.args.s.now j c.gather-found.result.places = λ i l. gather_member c.args.s.now c.args.at _ c.gather-found.ensures t i l (omega (arith, l)) in
     let a : rule14 j ≡ false = asset_read j (c.is_asset.ensures (field_of 'asset' j) (p 0 (omega arith))) ∙ rw c.if-not-is_asset.false refl in
-    let b : rule15 j ≡ true = extensions_read j (c.is_some.ensures ∙ has_member (p 1 (omega arith))) ∙ c.if-is_some.true in
+    let b : rule15 j ≡ true = extensions_read j (has_member (p 1 (omega arith))) ∙ grind arith in
     rw c.rule-then-is_some.ensures (answer_refused j 15 (λ z. omega (arith, z)) (is15 j a b))
 
 pub returns-in_err-read_members : goal.returns-in_err-read_members
 returns-in_err-read_members c = λ j t.
     let p : PlacesTo c.args.s.now j c.gather-found.result.places = λ i l. gather_member c.args.s.now c.args.at _ c.gather-found.ensures t i l (omega (arith, l)) in
     let a : rule14 j ≡ false = asset_read j (c.is_asset.ensures (field_of 'asset' j) (p 0 (omega arith))) ∙ rw c.if-not-is_asset.false refl in
-    let b : rule15 j ≡ false = extensions_read j (c.is_some.ensures ∙ has_member (p 1 (omega arith))) ∙ c.if-is_some.false in
+    let b : rule15 j ≡ false = extensions_read j (has_member (p 1 (omega arith))) ∙ grind arith in
     let r = c.read_members.ensures j p in
     let k : rule16 j ≡ true = kinds_err r (held_err _ c.in_err-read_members.was) in
     let e = err_from_is_err_and c.from_residual.result c.from_residual.ensures.1 in
@@ -42,7 +43,7 @@ pub returns-then-is_over : goal.returns-then-is_over
 returns-then-is_over c = λ j t.
     let p : PlacesTo c.args.s.now j c.gather-found.result.places = λ i l. gather_member c.args.s.now c.args.at _ c.gather-found.ensures t i l (omega (arith, l)) in
     let a : rule14 j ≡ false = asset_read j (c.is_asset.ensures (field_of 'asset' j) (p 0 (omega arith))) ∙ rw c.if-not-is_asset.false refl in
-    let b : rule15 j ≡ false = extensions_read j (c.is_some.ensures ∙ has_member (p 1 (omega arith))) ∙ c.if-is_some.false in
+    let b : rule15 j ≡ false = extensions_read j (has_member (p 1 (omega arith))) ∙ grind arith in
     let r = c.read_members.ensures j p in
     let k : rule16 j ≡ false = kinds_ok r (held_ok _ c.in_ok-read_members.was) in
     let m = IfOk-at_ok _ (held_ok _ c.in_ok-read_members.was) r.are in
@@ -53,7 +54,7 @@ pub returns-then-buffer : goal.returns-then-buffer
 returns-then-buffer c = λ j t.
     let p : PlacesTo c.args.s.now j c.gather-found.result.places = λ i l. gather_member c.args.s.now c.args.at _ c.gather-found.ensures t i l (omega (arith, l)) in
     let a : rule14 j ≡ false = asset_read j (c.is_asset.ensures (field_of 'asset' j) (p 0 (omega arith))) ∙ rw c.if-not-is_asset.false refl in
-    let b : rule15 j ≡ false = extensions_read j (c.is_some.ensures ∙ has_member (p 1 (omega arith))) ∙ c.if-is_some.false in
+    let b : rule15 j ≡ false = extensions_read j (has_member (p 1 (omega arith))) ∙ grind arith in
     let r = c.read_members.ensures j p in
     let k : rule16 j ≡ false = kinds_ok r (held_ok _ c.in_ok-read_members.was) in
     let m = IfOk-at_ok _ (held_ok _ c.in_ok-read_members.was) r.are in
@@ -76,7 +77,7 @@ unfolding said
 returns c = λ j t.
     let p : PlacesTo c.args.s.now j c.gather-found.result.places = λ i l. gather_member c.args.s.now c.args.at _ c.gather-found.ensures t i l (omega (arith, l)) in
     let a : rule14 j ≡ false = asset_read j (c.is_asset.ensures (field_of 'asset' j) (p 0 (omega arith))) ∙ rw c.if-not-is_asset.false refl in
-    let b : rule15 j ≡ false = extensions_read j (c.is_some.ensures ∙ has_member (p 1 (omega arith))) ∙ c.if-is_some.false in
+    let b : rule15 j ≡ false = extensions_read j (has_member (p 1 (omega arith))) ∙ grind arith in
     let r = c.read_members.ensures j p in
     let k : rule16 j ≡ false = kinds_ok r (held_ok _ c.in_ok-read_members.was) in
     let m = IfOk-at_ok _ (held_ok _ c.in_ok-read_members.was) r.are in

@@ -1,4 +1,5 @@
--- `nav::scalars::integer_from` meets its contract.
+-- `nav::scalars::integer_from` meets its contract. Where fraction_taken_for_integer plants, `grind arith` takes the value from the
+-- facts, so that a wrong one is refused by what it says.
 -- Assumes nothing.
 use native.Mathlib.Omega.{arith}
 use Prim.Native.Nat.{◌+◌, ◌*◌, ◌-◌}
@@ -13,7 +14,7 @@ loop-b-init c = from_zero c.args.bytes.now
 pub returns-then-not-is_ascii_digit : goal.returns-then-not-is_ascii_digit
 returns-then-not-is_ascii_digit c =
     let l = from_at c.args.bytes.now c.loop-b.b-index c.loop-b.n (omega arith) c.loop-b.invariant in
-    sym (from_other c.loop-b.n _ _ (sym c.is_ascii_digit.ensures.value ∙ c.if-not-is_ascii_digit.true)) ∙ l
+    grind arith ∙ sym (from_other c.loop-b.n _ _ (sym c.is_ascii_digit.ensures.value ∙ c.if-not-is_ascii_digit.true)) ∙ l
 
 pub returns-in_err-checked_mul : goal.returns-in_err-checked_mul
 returns-in_err-checked_mul c =

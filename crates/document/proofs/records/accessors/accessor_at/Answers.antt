@@ -1,4 +1,5 @@
--- `document::records::accessors::accessor_at` meets its contract.
+-- `document::records::accessors::accessor_at` meets its contract. Where null_taken_for_absent plants, `grind arith` takes the value
+-- from the facts, so that a wrong one is refused by what it says.
 -- Assumes nothing.
 use mathlib.Core.Path.{refl}
 use native.Mathlib.Omega.{arith}
@@ -116,7 +117,7 @@ returns-in_err-normalized c =
       (kept_ok (c.element_type.ensures (field_of 'type' j) (gather_member s at _ e t 2 (omega arith) (omega arith))) c.in_ok-element_type.was).0,
       (kept_ok (c.optional.ensures (field_of 'bufferView' j) (gather_member s at _ e t 3 (omega arith) (omega arith))) c.in_ok-view.was).0,
       (kept_ok (c.optional-2.ensures (field_of 'byteOffset' j) (gather_member s at _ e t 4 (omega arith) (omega arith))) c.in_ok-offset.was).0,
-      kept_err _ (c.true_or_false.ensures (field_of 'normalized' j) (gather_member s at _ e t 5 (omega arith) (omega arith))) c.in_err-normalized.was,
+      kept_err _ (c.true_or_false.ensures (field_of 'normalized' j) (gather_member s at _ e t 5 (omega arith) (omega arith))) (grind arith),
     )
     refl)
 
@@ -135,7 +136,7 @@ returns-in_err-sparse c =
       (kept_ok (c.element_type.ensures (field_of 'type' j) (gather_member s at _ e t 2 (omega arith) (omega arith))) c.in_ok-element_type.was).0,
       (kept_ok (c.optional.ensures (field_of 'bufferView' j) (gather_member s at _ e t 3 (omega arith) (omega arith))) c.in_ok-view.was).0,
       (kept_ok (c.optional-2.ensures (field_of 'byteOffset' j) (gather_member s at _ e t 4 (omega arith) (omega arith))) c.in_ok-offset.was).0,
-      (kept_ok (c.true_or_false.ensures (field_of 'normalized' j) (gather_member s at _ e t 5 (omega arith) (omega arith))) c.in_ok-normalized.was).0,
+      (kept_ok {x = c.in_ok-normalized.normalized} (c.true_or_false.ensures (field_of 'normalized' j) (gather_member s at _ e t 5 (omega arith) (omega arith))) (grind arith)).0,
       kept_err _ (c.sparse_at.ensures (field_of 'sparse' j) (gather_member s at _ e t 6 (omega arith) (omega arith))) c.in_err-sparse.was,
     )
     refl)
@@ -155,7 +156,7 @@ returns c =
     let n3 = number_value (field_of 'bufferView' j) k3.1 in
     let k4 = kept_ok (c.optional-2.ensures (field_of 'byteOffset' j) (gather_member s at _ e t 4 (omega arith) (omega arith))) c.in_ok-offset.was in
     let n4 = number_value (field_of 'byteOffset' j) k4.1 in
-    let k5 = kept_ok (c.true_or_false.ensures (field_of 'normalized' j) (gather_member s at _ e t 5 (omega arith) (omega arith))) c.in_ok-normalized.was in
+    let k5 = kept_ok {x = c.in_ok-normalized.normalized} (c.true_or_false.ensures (field_of 'normalized' j) (gather_member s at _ e t 5 (omega arith) (omega arith))) (grind arith) in
     let k6 = kept_ok (c.sparse_at.ensures (field_of 'sparse' j) (gather_member s at _ e t 6 (omega arith) (omega arith))) c.in_ok-sparse.was in
     let n6 = sparse_value (field_of 'sparse' j) k6.1 in (
       rw (x.2 j t, k0.0, k1.0, k2.0, k3.0, k4.0, k5.0, k6.0) refl,

@@ -1,4 +1,5 @@
--- `document::records::views::view_at` meets its contract.
+-- `document::records::views::view_at` meets its contract. Where required_member_not_required plants, `grind arith` takes the value
+-- from the facts, so that a wrong one is refused by what it says.
 -- Assumes nothing.
 use mathlib.Core.Path.{refl}
 use native.Mathlib.Omega.{arith}
@@ -31,7 +32,7 @@ returns-in_err-buffer c =
     reads_err c.from_residual-in_err-buffer.ensures.0 (λ j t.
     rw (
       x.2 j t,
-      kept_err _ (c.required.ensures (field_of 'buffer' j) (gather_member s at _ e t 0 (omega arith) (omega arith))) c.in_err-buffer.was,
+      kept_err _ (c.required.ensures (field_of 'buffer' j) (gather_member s at _ e t 0 (omega arith) (omega arith))) (grind arith),
     )
     refl)
 
@@ -45,7 +46,7 @@ returns-in_err-byte_length c =
     reads_err c.from_residual-in_err-byte_length.ensures.0 (λ j t.
     rw (
       x.2 j t,
-      (kept_ok (c.required.ensures (field_of 'buffer' j) (gather_member s at _ e t 0 (omega arith) (omega arith))) c.in_ok-buffer.was).0,
+      (kept_ok {x = c.in_ok-buffer.buffer} (c.required.ensures (field_of 'buffer' j) (gather_member s at _ e t 0 (omega arith) (omega arith))) (grind arith)).0,
       kept_err _ (c.required-2.ensures (field_of 'byteLength' j) (gather_member s at _ e t 1 (omega arith) (omega arith))) c.in_err-byte_length.was,
     )
     refl)
@@ -60,7 +61,7 @@ returns-in_err-byte_offset c =
     reads_err c.from_residual-in_err-byte_offset.ensures.0 (λ j t.
     rw (
       x.2 j t,
-      (kept_ok (c.required.ensures (field_of 'buffer' j) (gather_member s at _ e t 0 (omega arith) (omega arith))) c.in_ok-buffer.was).0,
+      (kept_ok {x = c.in_ok-buffer.buffer} (c.required.ensures (field_of 'buffer' j) (gather_member s at _ e t 0 (omega arith) (omega arith))) (grind arith)).0,
       (kept_ok (c.required-2.ensures (field_of 'byteLength' j) (gather_member s at _ e t 1 (omega arith) (omega arith))) c.in_ok-byte_length.was).0,
       kept_err _ (c.optional.ensures (field_of 'byteOffset' j) (gather_member s at _ e t 2 (omega arith) (omega arith))) c.in_err-byte_offset.was,
     )
@@ -76,7 +77,7 @@ returns-in_err-byte_stride c =
     reads_err c.from_residual-in_err-byte_stride.ensures.0 (λ j t.
     rw (
       x.2 j t,
-      (kept_ok (c.required.ensures (field_of 'buffer' j) (gather_member s at _ e t 0 (omega arith) (omega arith))) c.in_ok-buffer.was).0,
+      (kept_ok {x = c.in_ok-buffer.buffer} (c.required.ensures (field_of 'buffer' j) (gather_member s at _ e t 0 (omega arith) (omega arith))) (grind arith)).0,
       (kept_ok (c.required-2.ensures (field_of 'byteLength' j) (gather_member s at _ e t 1 (omega arith) (omega arith))) c.in_ok-byte_length.was).0,
       (kept_ok (c.optional.ensures (field_of 'byteOffset' j) (gather_member s at _ e t 2 (omega arith) (omega arith))) c.in_ok-byte_offset.was).0,
       kept_err _ (c.optional-2.ensures (field_of 'byteStride' j) (gather_member s at _ e t 3 (omega arith) (omega arith))) c.in_err-byte_stride.was,
@@ -93,7 +94,7 @@ returns-in_err-target c =
     reads_err c.from_residual-in_err-target.ensures.0 (λ j t.
     rw (
       x.2 j t,
-      (kept_ok (c.required.ensures (field_of 'buffer' j) (gather_member s at _ e t 0 (omega arith) (omega arith))) c.in_ok-buffer.was).0,
+      (kept_ok {x = c.in_ok-buffer.buffer} (c.required.ensures (field_of 'buffer' j) (gather_member s at _ e t 0 (omega arith) (omega arith))) (grind arith)).0,
       (kept_ok (c.required-2.ensures (field_of 'byteLength' j) (gather_member s at _ e t 1 (omega arith) (omega arith))) c.in_ok-byte_length.was).0,
       (kept_ok (c.optional.ensures (field_of 'byteOffset' j) (gather_member s at _ e t 2 (omega arith) (omega arith))) c.in_ok-byte_offset.was).0,
       (kept_ok (c.optional-2.ensures (field_of 'byteStride' j) (gather_member s at _ e t 3 (omega arith) (omega arith))) c.in_ok-byte_stride.was).0,
@@ -109,7 +110,7 @@ returns c =
     let e = c.gather.ensures in
     let x = past_ok (gather_past s at _ e) unfit c.ok_or.ensures.value c.in_ok-past.was in
     reads_ok x.0 x.1 (λ j t.
-    let k0 = kept_ok (c.required.ensures (field_of 'buffer' j) (gather_member s at _ e t 0 (omega arith) (omega arith))) c.in_ok-buffer.was in
+    let k0 = kept_ok {x = c.in_ok-buffer.buffer} (c.required.ensures (field_of 'buffer' j) (gather_member s at _ e t 0 (omega arith) (omega arith))) (grind arith) in
     let k1 = kept_ok (c.required-2.ensures (field_of 'byteLength' j) (gather_member s at _ e t 1 (omega arith) (omega arith))) c.in_ok-byte_length.was in
     let k2 = kept_ok (c.optional.ensures (field_of 'byteOffset' j) (gather_member s at _ e t 2 (omega arith) (omega arith))) c.in_ok-byte_offset.was in
     let n2 = number_value (field_of 'byteOffset' j) k2.1 in

@@ -1,4 +1,5 @@
--- `document::top::TopRead::read_members` meets its contract. Assumes nothing.
+-- `document::top::TopRead::read_members` meets its contract. Where empty_array_accepted plants, `grind arith` takes the value from
+-- the facts, so that a wrong one is refused by what it says. Assumes nothing.
 use mathlib.Core.Path.{◌≡◌, refl, sym, ap, ◌∙◌}
 use native.Mathlib.Omega.{arith}
 use mathlib.Core.Bool.{true, false}
@@ -25,20 +26,20 @@ returns-in_err-buffers c = λ j p.
 pub returns-in_err-views : goal.returns-in_err-views
 returns-in_err-views c = λ j p.
     let g0 : is_array_of is_buffer (field_of 'buffers' j) ≡ true = (kept_ok (c.read.ensures (field_of 'buffers' j) (p 2 (omega arith))) (held_ok _ c.in_ok-buffers.was)).0 in
-    let g1 : is_array_of is_view (field_of 'bufferViews' j) ≡ false = kept_err _ (c.read-2.ensures (field_of 'bufferViews' j) (p 3 (omega arith))) (held_err _ c.in_err-views.was) in
+    let g1 : is_array_of is_view (field_of 'bufferViews' j) ≡ false = kept_err _ (c.read-2.ensures (field_of 'bufferViews' j) (p 3 (omega arith))) (held_err _ (grind arith)) in
     tops_err _ _ j c.from_residual-in_err-views.ensures.0 (sym (kinds j) ∙ rw (g0, g1) refl)
 
 pub returns-in_err-accessors : goal.returns-in_err-accessors
 returns-in_err-accessors c = λ j p.
     let g0 : is_array_of is_buffer (field_of 'buffers' j) ≡ true = (kept_ok (c.read.ensures (field_of 'buffers' j) (p 2 (omega arith))) (held_ok _ c.in_ok-buffers.was)).0 in
-    let g1 : is_array_of is_view (field_of 'bufferViews' j) ≡ true = (kept_ok (c.read-2.ensures (field_of 'bufferViews' j) (p 3 (omega arith))) (held_ok _ c.in_ok-views.was)).0 in
+    let g1 : is_array_of is_view (field_of 'bufferViews' j) ≡ true = (kept_ok (c.read-2.ensures (field_of 'bufferViews' j) (p 3 (omega arith))) (held_ok _ {x = c.in_ok-views.views} (grind arith))).0 in
     let g2 : is_array_of is_accessor (field_of 'accessors' j) ≡ false = kept_err _ (c.read-3.ensures (field_of 'accessors' j) (p 4 (omega arith))) (held_err _ c.in_err-accessors.was) in
     tops_err _ _ j c.from_residual-in_err-accessors.ensures.0 (sym (kinds j) ∙ rw (g0, g1, g2) refl)
 
 pub returns-in_err-nodes : goal.returns-in_err-nodes
 returns-in_err-nodes c = λ j p.
     let g0 : is_array_of is_buffer (field_of 'buffers' j) ≡ true = (kept_ok (c.read.ensures (field_of 'buffers' j) (p 2 (omega arith))) (held_ok _ c.in_ok-buffers.was)).0 in
-    let g1 : is_array_of is_view (field_of 'bufferViews' j) ≡ true = (kept_ok (c.read-2.ensures (field_of 'bufferViews' j) (p 3 (omega arith))) (held_ok _ c.in_ok-views.was)).0 in
+    let g1 : is_array_of is_view (field_of 'bufferViews' j) ≡ true = (kept_ok (c.read-2.ensures (field_of 'bufferViews' j) (p 3 (omega arith))) (held_ok _ {x = c.in_ok-views.views} (grind arith))).0 in
     let g2 : is_array_of is_accessor (field_of 'accessors' j) ≡ true = (kept_ok (c.read-3.ensures (field_of 'accessors' j) (p 4 (omega arith))) (held_ok _ c.in_ok-accessors.was)).0 in
     let g3 : nodes_good (field_of 'nodes' j) ≡ false = lists_err {n = 128} {m = 128} (c.read_lists.ensures 128 128 (ap (λ (m : TopRead). m.nodes.lists) c.requires) (ap (λ (m : TopRead). m.nodes.entries) c.requires) (field_of 'nodes' j) (p 5 (omega arith))) (held_err _ c.in_err-nodes.was) in
     tops_err _ _ j c.from_residual-in_err-nodes.ensures.0 (sym (kinds j) ∙ rw (g0, g1, g2, g3) refl)
@@ -46,7 +47,7 @@ returns-in_err-nodes c = λ j p.
 pub returns-in_err-scenes : goal.returns-in_err-scenes
 returns-in_err-scenes c = λ j p.
     let g0 : is_array_of is_buffer (field_of 'buffers' j) ≡ true = (kept_ok (c.read.ensures (field_of 'buffers' j) (p 2 (omega arith))) (held_ok _ c.in_ok-buffers.was)).0 in
-    let g1 : is_array_of is_view (field_of 'bufferViews' j) ≡ true = (kept_ok (c.read-2.ensures (field_of 'bufferViews' j) (p 3 (omega arith))) (held_ok _ c.in_ok-views.was)).0 in
+    let g1 : is_array_of is_view (field_of 'bufferViews' j) ≡ true = (kept_ok (c.read-2.ensures (field_of 'bufferViews' j) (p 3 (omega arith))) (held_ok _ {x = c.in_ok-views.views} (grind arith))).0 in
     let g2 : is_array_of is_accessor (field_of 'accessors' j) ≡ true = (kept_ok (c.read-3.ensures (field_of 'accessors' j) (p 4 (omega arith))) (held_ok _ c.in_ok-accessors.was)).0 in
     let g3 : nodes_good (field_of 'nodes' j) ≡ true = (lists_ok {n = 128} {m = 128} (c.read_lists.ensures 128 128 (ap (λ (m : TopRead). m.nodes.lists) c.requires) (ap (λ (m : TopRead). m.nodes.entries) c.requires) (field_of 'nodes' j) (p 5 (omega arith))) (held_ok _ c.in_ok-nodes.was)).0 in
     let g4 : scenes_good (field_of 'scenes' j) ≡ false = lists_err {n = 8} {m = 1024} (c.read_lists-2.ensures 8 1024 (ap (λ (m : TopRead). m.scenes.lists) c.requires) (ap (λ (m : TopRead). m.scenes.entries) c.requires) (field_of 'scenes' j) (p 6 (omega arith))) (held_err _ c.in_err-scenes.was) in
@@ -55,7 +56,7 @@ returns-in_err-scenes c = λ j p.
 pub returns-in_err-scene : goal.returns-in_err-scene
 returns-in_err-scene c = λ j p.
     let g0 : is_array_of is_buffer (field_of 'buffers' j) ≡ true = (kept_ok (c.read.ensures (field_of 'buffers' j) (p 2 (omega arith))) (held_ok _ c.in_ok-buffers.was)).0 in
-    let g1 : is_array_of is_view (field_of 'bufferViews' j) ≡ true = (kept_ok (c.read-2.ensures (field_of 'bufferViews' j) (p 3 (omega arith))) (held_ok _ c.in_ok-views.was)).0 in
+    let g1 : is_array_of is_view (field_of 'bufferViews' j) ≡ true = (kept_ok (c.read-2.ensures (field_of 'bufferViews' j) (p 3 (omega arith))) (held_ok _ {x = c.in_ok-views.views} (grind arith))).0 in
     let g2 : is_array_of is_accessor (field_of 'accessors' j) ≡ true = (kept_ok (c.read-3.ensures (field_of 'accessors' j) (p 4 (omega arith))) (held_ok _ c.in_ok-accessors.was)).0 in
     let g3 : nodes_good (field_of 'nodes' j) ≡ true = (lists_ok {n = 128} {m = 128} (c.read_lists.ensures 128 128 (ap (λ (m : TopRead). m.nodes.lists) c.requires) (ap (λ (m : TopRead). m.nodes.entries) c.requires) (field_of 'nodes' j) (p 5 (omega arith))) (held_ok _ c.in_ok-nodes.was)).0 in
     let g4 : scenes_good (field_of 'scenes' j) ≡ true = (lists_ok {n = 8} {m = 1024} (c.read_lists-2.ensures 8 1024 (ap (λ (m : TopRead). m.scenes.lists) c.requires) (ap (λ (m : TopRead). m.scenes.entries) c.requires) (field_of 'scenes' j) (p 6 (omega arith))) (held_ok _ c.in_ok-scenes.was)).0 in
@@ -67,7 +68,7 @@ unfolding buffers_in views_in accessors_in
 returns c = λ j p.
     let k0 = kept_ok (c.read.ensures (field_of 'buffers' j) (p 2 (omega arith))) (held_ok _ c.in_ok-buffers.was) in
     let g0 : is_array_of is_buffer (field_of 'buffers' j) ≡ true = k0.0 in
-    let k1 = kept_ok (c.read-2.ensures (field_of 'bufferViews' j) (p 3 (omega arith))) (held_ok _ c.in_ok-views.was) in
+    let k1 = kept_ok (c.read-2.ensures (field_of 'bufferViews' j) (p 3 (omega arith))) (held_ok _ {x = c.in_ok-views.views} (grind arith)) in
     let g1 : is_array_of is_view (field_of 'bufferViews' j) ≡ true = k1.0 in
     let k2 = kept_ok (c.read-3.ensures (field_of 'accessors' j) (p 4 (omega arith))) (held_ok _ c.in_ok-accessors.was) in
     let g2 : is_array_of is_accessor (field_of 'accessors' j) ≡ true = k2.0 in
