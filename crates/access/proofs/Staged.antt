@@ -20,7 +20,7 @@ use Rattle.access.specs.Stages.{own_reading}
 use Rattle.access.proofs.Answers.{of_entry, of_view, of_other}
 
 module _ (f : List ℕ) (s : Selection) (e c : ℕ) where
-  -- refused with 63
+  -- refused with 63; by `grind`, so that refusal_61_before_63 is refused by what it says
   pub unfit_in : accessor_unfit (length f) s ≡ true → component_in f s e c ≡ refused 63
   unfolding component_in
   unfit_in u = rw u (grind (arith, nat_tests))
