@@ -3,6 +3,8 @@
 use mathlib.Core.Path.{◌≡◌, refl, sym, ◌∙◌}
 use native.Mathlib.Omega.{arith}
 use mathlib.Core.Bool.{true, false}
+use lib.ListN.{get_or}
+use Rattle.std.specs.Prelude.{None, is_some}
 use Rattle.std.proofs.lemmas.Result.{err_from_is_err_and, IfOk-at_ok}
 use Rattle.nav.specs.Members.{field_of}
 use Rattle.nav.proofs.Navigation.{gather_member}
@@ -15,6 +17,11 @@ use Rattle.document.proofs.Placing.{has_member}
 use Rattle.document.proofs.Tops.{is14, is15, is16, is17, is18, is_none, answer_refused, answer_said, asset_read}
 use Rattle.document.proofs.Tops.{extensions_read, kinds_ok, kinds_err, over_read, uri_read, tables_said, few_of, placed_said, sound_few}
 use Rattle.document.proofs.top.top.Goals as goal
+use Rattle.document.proofs.top.top.Goals.{Else-is_some}
+
+-- extensionsRequired is not there
+absent : (c : Else-is_some) → is_some (get_or c.gather-found.result.places 1 None) ≡ false
+absent c = grind arith
 
 pub returns-then-not-is_asset : goal.returns-then-not-is_asset
 returns-then-not-is_asset c = λ j t.
@@ -33,7 +40,7 @@ pub returns-in_err-read_members : goal.returns-in_err-read_members
 returns-in_err-read_members c = λ j t.
     let p : PlacesTo c.args.s.now j c.gather-found.result.places = λ i l. gather_member c.args.s.now c.args.at _ c.gather-found.ensures t i l (omega (arith, l)) in
     let a : rule14 j ≡ false = asset_read j (c.is_asset.ensures (field_of 'asset' j) (p 0 (omega arith))) ∙ rw c.if-not-is_asset.false refl in
-    let b : rule15 j ≡ false = extensions_read j (has_member (p 1 (omega arith))) ∙ grind arith in
+    let b : rule15 j ≡ false = extensions_read j (has_member (p 1 (omega arith))) ∙ absent (goal.at.returns-in_err-read_members c).Else-is_some in
     let r = c.read_members.ensures j p in
     let k : rule16 j ≡ true = kinds_err r (held_err _ c.in_err-read_members.was) in
     let e = err_from_is_err_and c.from_residual.result c.from_residual.ensures.1 in
@@ -43,7 +50,7 @@ pub returns-then-is_over : goal.returns-then-is_over
 returns-then-is_over c = λ j t.
     let p : PlacesTo c.args.s.now j c.gather-found.result.places = λ i l. gather_member c.args.s.now c.args.at _ c.gather-found.ensures t i l (omega (arith, l)) in
     let a : rule14 j ≡ false = asset_read j (c.is_asset.ensures (field_of 'asset' j) (p 0 (omega arith))) ∙ rw c.if-not-is_asset.false refl in
-    let b : rule15 j ≡ false = extensions_read j (has_member (p 1 (omega arith))) ∙ grind arith in
+    let b : rule15 j ≡ false = extensions_read j (has_member (p 1 (omega arith))) ∙ absent (goal.at.returns-then-is_over c).Else-is_some in
     let r = c.read_members.ensures j p in
     let k : rule16 j ≡ false = kinds_ok r (held_ok _ c.in_ok-read_members.was) in
     let m = IfOk-at_ok _ (held_ok _ c.in_ok-read_members.was) r.are in
@@ -54,7 +61,7 @@ pub returns-then-buffer : goal.returns-then-buffer
 returns-then-buffer c = λ j t.
     let p : PlacesTo c.args.s.now j c.gather-found.result.places = λ i l. gather_member c.args.s.now c.args.at _ c.gather-found.ensures t i l (omega (arith, l)) in
     let a : rule14 j ≡ false = asset_read j (c.is_asset.ensures (field_of 'asset' j) (p 0 (omega arith))) ∙ rw c.if-not-is_asset.false refl in
-    let b : rule15 j ≡ false = extensions_read j (has_member (p 1 (omega arith))) ∙ grind arith in
+    let b : rule15 j ≡ false = extensions_read j (has_member (p 1 (omega arith))) ∙ absent (goal.at.returns-then-buffer c).Else-is_some in
     let r = c.read_members.ensures j p in
     let k : rule16 j ≡ false = kinds_ok r (held_ok _ c.in_ok-read_members.was) in
     let m = IfOk-at_ok _ (held_ok _ c.in_ok-read_members.was) r.are in
@@ -77,7 +84,7 @@ unfolding said
 returns c = λ j t.
     let p : PlacesTo c.args.s.now j c.gather-found.result.places = λ i l. gather_member c.args.s.now c.args.at _ c.gather-found.ensures t i l (omega (arith, l)) in
     let a : rule14 j ≡ false = asset_read j (c.is_asset.ensures (field_of 'asset' j) (p 0 (omega arith))) ∙ rw c.if-not-is_asset.false refl in
-    let b : rule15 j ≡ false = extensions_read j (has_member (p 1 (omega arith))) ∙ grind arith in
+    let b : rule15 j ≡ false = extensions_read j (has_member (p 1 (omega arith))) ∙ absent (goal.at.returns c).Else-is_some in
     let r = c.read_members.ensures j p in
     let k : rule16 j ≡ false = kinds_ok r (held_ok _ c.in_ok-read_members.was) in
     let m = IfOk-at_ok _ (held_ok _ c.in_ok-read_members.was) r.are in

@@ -1,8 +1,9 @@
 -- `document::records::accessors::accessor_at` meets its contract. Where null_taken_for_absent plants, `grind arith` takes the value
 -- from the facts, so that a wrong one is refused by what it says.
 -- Assumes nothing.
-use mathlib.Core.Path.{refl}
+use mathlib.Core.Path.{◌≡◌, refl}
 use native.Mathlib.Omega.{arith}
+use Rattle.std.specs.Prelude.{Ok}
 use Rattle.nav.specs.Members.{field_of}
 use Rattle.nav.proofs.Navigation.{gather_past, gather_member}
 use Rattle.document.specs.Names.{'componentType', 'count', 'type', 'bufferView', 'byteOffset', 'normalized', 'sparse'}
@@ -10,6 +11,11 @@ use Rattle.document.specs.Accessors.{is_accessor, accessor_of}
 use Rattle.document.proofs.Placing.{past_ok, past_err}
 use Rattle.document.proofs.Keeping.{unfit, kept_ok, kept_err, reads_ok, reads_err, number_value, sparse_value, sparse_default}
 use Rattle.document.proofs.records.accessors.accessor_at.Goals as goal
+use Rattle.document.proofs.records.accessors.accessor_at.Goals.{In_ok-normalized}
+
+-- what `true_or_false` answers where normalized is read
+normalized-is : (c : In_ok-normalized) → c.true_or_false.result ≡ Ok c.in_ok-normalized.normalized
+normalized-is c = grind arith
 
 pub returns-in_err-past : goal.returns-in_err-past
 unfolding is_accessor accessor_of
@@ -136,7 +142,7 @@ returns-in_err-sparse c =
       (kept_ok (c.element_type.ensures (field_of 'type' j) (gather_member s at _ e t 2 (omega arith) (omega arith))) c.in_ok-element_type.was).0,
       (kept_ok (c.optional.ensures (field_of 'bufferView' j) (gather_member s at _ e t 3 (omega arith) (omega arith))) c.in_ok-view.was).0,
       (kept_ok (c.optional-2.ensures (field_of 'byteOffset' j) (gather_member s at _ e t 4 (omega arith) (omega arith))) c.in_ok-offset.was).0,
-      (kept_ok {x = c.in_ok-normalized.normalized} (c.true_or_false.ensures (field_of 'normalized' j) (gather_member s at _ e t 5 (omega arith) (omega arith))) (grind arith)).0,
+      (kept_ok (c.true_or_false.ensures (field_of 'normalized' j) (gather_member s at _ e t 5 (omega arith) (omega arith))) (normalized-is (goal.at.returns-in_err-sparse c).In_ok-normalized)).0,
       kept_err _ (c.sparse_at.ensures (field_of 'sparse' j) (gather_member s at _ e t 6 (omega arith) (omega arith))) c.in_err-sparse.was,
     )
     refl)
@@ -156,7 +162,7 @@ returns c =
     let n3 = number_value (field_of 'bufferView' j) k3.1 in
     let k4 = kept_ok (c.optional-2.ensures (field_of 'byteOffset' j) (gather_member s at _ e t 4 (omega arith) (omega arith))) c.in_ok-offset.was in
     let n4 = number_value (field_of 'byteOffset' j) k4.1 in
-    let k5 = kept_ok {x = c.in_ok-normalized.normalized} (c.true_or_false.ensures (field_of 'normalized' j) (gather_member s at _ e t 5 (omega arith) (omega arith))) (grind arith) in
+    let k5 = kept_ok (c.true_or_false.ensures (field_of 'normalized' j) (gather_member s at _ e t 5 (omega arith) (omega arith))) (normalized-is (goal.at.returns c).In_ok-normalized) in
     let k6 = kept_ok (c.sparse_at.ensures (field_of 'sparse' j) (gather_member s at _ e t 6 (omega arith) (omega arith))) c.in_ok-sparse.was in
     let n6 = sparse_value (field_of 'sparse' j) k6.1 in (
       rw (x.2 j t, k0.0, k1.0, k2.0, k3.0, k4.0, k5.0, k6.0) refl,
